@@ -1,0 +1,17 @@
+pub mod Limits
+pub mod Row
+pub mod Cell
+pub mod Layer
+pub mod Raw
+pub mod Form
+pub mod Fit
+pub mod Read
+pub mod Position
+pub mod Edits
+pub mod Redo
+pub mod Conflict
+pub mod Move
+pub mod Answer
+pub mod Refusals
+pub mod Calls
+pub mod Examples

@@ -1,0 +1,1 @@
+// Lists and numbers: the laws of specs/ and proofs/. There is no code here.
