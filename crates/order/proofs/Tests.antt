@@ -94,3 +94,17 @@ one-mono a k l h = go (ltb a k) refl
     go : (t : Bool) → ltb a k ≡ t → one (ltb a k) ≤ one (ltb a l)
     go true e = omega (arith, one-lt a l (omega (arith, ltb-true a k e)), ap one e)
     go false e = omega (arith, ap one e)
+
+-- first by one number, then by a test
+pub lex-cases : (p s : ℕ) (t : Bool) → ltb p s || (eqb p s && t) ≡ true → (p < s) ⊎ ((p ≡ s) × (t ≡ true))
+lex-cases p s t h = go (or-cases (ltb p s) (eqb p s && t) h)
+  where
+    go : (ltb p s ≡ true) ⊎ (eqb p s && t ≡ true) → (p < s) ⊎ ((p ≡ s) × (t ≡ true))
+    go (inl e) = inl (ltb-true p s e)
+    go (inr e) = inr (eqb-true p s (and-l (eqb p s) t e), and-r (eqb p s) t e)
+
+pub lex-lt : (p s : ℕ) (t : Bool) → p < s → ltb p s || (eqb p s && t) ≡ true
+lex-lt p s t h = or-l (ltb p s) (eqb p s && t) (lt-ltb p s h)
+
+pub lex-eq : (p s : ℕ) (t : Bool) → p ≡ s → t ≡ true → ltb p s || (eqb p s && t) ≡ true
+lex-eq p s t e h = or-r (ltb p s) (eqb p s && t) (and-of (eqb p s) t (eq-eqb p s e) h)
