@@ -116,5 +116,5 @@ before-rises (at p d) (at s e) h = go (before-cases p s d e h)
     go (inr x) = or-r (not (eqb p s)) (keysRise d e) (deed-rises d e (x .1))
 
 -- at one position
-pub level : (s : ℕ) (d e : Deed) → before (at s d) (at s e) ≡ true → deedBefore d e ≡ true
-level s d e h = ⊎-elim (λ l. absurd (omega arith)) (λ w. w .1) (before-cases s s d e h)
+pub level : (p s : ℕ) (d e : Deed) → p ≡ s → before (at p d) (at s e) ≡ true → deedBefore d e ≡ true
+level p s d e ps h = ⊎-elim (λ l. absurd (omega arith)) (λ w. w .1) (before-cases p s d e h)

@@ -160,8 +160,7 @@ module _ (c : ℕ) (T : Table) (L : Layer) (a : AscFrom key 0 T) (fm : inOrder c
           let n = base-at s (formed .each (at s (strike k)) m) in
           (getD T s [], n, sym (key-of n) ∙ eqb-true (getD (keys T) s 0) k (fitted .each (at s (strike k)) m));
       changes = λ s j e m.
-          let h = formed .each (at s (change j e)) m in
-          (
+          let h = formed .each (at s (change j e)) m in (
             getD T s [],
             base-at s (and-l (ltb s (length T)) (leb 1 j && ltb j c) h),
             leb-true 1 j (and-l (leb 1 j) (ltb j c) (and-r (ltb s (length T)) (leb 1 j && ltb j c) h)),

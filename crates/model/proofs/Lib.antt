@@ -4,4 +4,5 @@ pub mod Layer
 pub mod Read
 pub mod Edits
 pub mod Fit
+pub mod Count
 pub mod Examples

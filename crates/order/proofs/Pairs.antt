@@ -50,8 +50,8 @@ module _ {A : Type 0} where
   pairs-filter R f (x ∷ xs) p =
       let ih = pairs-filter R f xs (p .1) in
       elim (f x) as (λ t. AllPairs R (cond t (x ∷ filter f xs) (filter f xs))) [
-        true ↦ (λ y m. p .0 y ((filter-mem f xs y m) .0), ih)
-      | false ↦ ih
+        | true ↦ (λ y m. p .0 y ((filter-mem f xs y m) .0), ih)
+        | false ↦ ih
       ]
 
   -- insertion keeps a strict order, where the new element can be compared with each
