@@ -6,4 +6,5 @@ pub mod Edits
 pub mod Fit
 pub mod Count
 pub mod Conflict
+pub mod Move
 pub mod Examples
