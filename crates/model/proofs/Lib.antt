@@ -7,4 +7,6 @@ pub mod Fit
 pub mod Count
 pub mod Conflict
 pub mod Move
+pub mod Redo
+pub mod Demand3
 pub mod Examples

@@ -296,16 +296,14 @@ module _ (T : Table) (X Y : Layer) (B : Beside T X Y) where
     fresh = λ p r m i q n e. fresh p r m i q n e (shown 0 T Y q (at-mem n));
     strikes = λ p k m.
         let z = move-strike Y X p k m in
-        let w = B .mine .strikes (z .0) k (z .1) in
-        (
+        let w = B .mine .strikes (z .0) k (z .1) in (
           changed (z .0) Y (w .0),
           at-cast (sym (z .2)) (row-at T Y (B .ascends) (B .theirs) (z .0) (w .0) (w .1) (B .apart .strikes (z .0) k (z .1))),
           changed-key (z .0) Y (w .0) (key-kept T Y (B .theirs)) ∙ w .2,
         );
     changes = λ p j e m.
         let z = move-change Y X p j e m in
-        let w = B .mine .changes (z .0) j e (z .1) in
-        (
+        let w = B .mine .changes (z .0) j e (z .1) in (
           changed (z .0) Y (w .0),
           at-cast (sym (z .2)) (row-at T Y (B .ascends) (B .theirs) (z .0) (w .0) (w .1) (B .apart .changes (z .0) j e (z .1))),
           w .2,
