@@ -1,0 +1,5 @@
+pub mod Tests
+pub mod Members
+pub mod Counts
+pub mod Pairs
+pub mod Ascending
