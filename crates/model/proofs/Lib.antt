@@ -6,3 +6,4 @@ pub mod Edits
 pub mod Fit
 pub mod Count
 pub mod Examples
+pub mod Position
