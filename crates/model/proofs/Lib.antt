@@ -10,3 +10,4 @@ pub mod Move
 pub mod Redo
 pub mod Demand3
 pub mod Examples
+pub mod Position
