@@ -6,3 +6,5 @@ pub mod Edits
 pub mod Fit
 pub mod Count
 pub mod Examples
+pub mod Meaning
+pub mod Canonical
