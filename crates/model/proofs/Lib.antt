@@ -8,3 +8,4 @@ pub mod Count
 pub mod Examples
 pub mod Meaning
 pub mod Canonical
+pub mod Operator
