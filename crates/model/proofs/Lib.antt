@@ -5,6 +5,7 @@ pub mod Read
 pub mod Edits
 pub mod Fit
 pub mod Count
+pub mod Conflict
 pub mod Examples
 pub mod Meaning
 pub mod Canonical
