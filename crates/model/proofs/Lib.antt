@@ -6,6 +6,9 @@ pub mod Edits
 pub mod Fit
 pub mod Count
 pub mod Conflict
+pub mod Move
+pub mod Redo
+pub mod Demand3
 pub mod Examples
 pub mod Meaning
 pub mod Canonical

@@ -12,6 +12,7 @@ pub mod Redo
 pub mod Conflict
 pub mod Move
 pub mod Demand
+pub mod Past
 pub mod Meaning
 pub mod Answer
 pub mod Refusals
