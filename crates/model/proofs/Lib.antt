@@ -11,3 +11,6 @@ pub mod Redo
 pub mod Demand3
 pub mod Examples
 pub mod Position
+pub mod Meaning
+pub mod Canonical
+pub mod Operator
