@@ -5,4 +5,5 @@ pub mod Read
 pub mod Edits
 pub mod Fit
 pub mod Count
+pub mod Column
 pub mod Examples
