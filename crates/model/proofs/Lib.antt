@@ -6,4 +6,5 @@ pub mod Edits
 pub mod Fit
 pub mod Count
 pub mod Column
+pub mod Origin
 pub mod Examples
