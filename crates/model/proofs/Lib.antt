@@ -5,6 +5,10 @@ pub mod Read
 pub mod Edits
 pub mod Fit
 pub mod Count
+pub mod Conflict
+pub mod Move
+pub mod Redo
+pub mod Demand3
 pub mod Column
 pub mod Origin
 pub mod Examples
