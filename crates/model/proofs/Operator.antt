@@ -8,6 +8,7 @@ use mathlib.Core.List.{
   [],
   _∷_,
   _++_,
+  map,
   List·Memᴰ as Mem,
   List·Memᴰ·head as here,
   List·Memᴰ·tail as next,
@@ -20,13 +21,18 @@ use lib.ListN.{length, getD}
 use lib.Dec.{eqb}
 use borrow.Author.Tests.{eqb-true, eqb-false, eq-eqb, ne-eqb}
 use Rattle.order.specs.Lists.{count, gather, inTurn}
-use Rattle.order.proofs.Tests.{same-test, not-passed}
+use Rattle.order.proofs.Tests.{tests, same-test, not-passed}
 use Rattle.order.proofs.Counts.{count-le}
+use Rattle.order.proofs.Pairs.{AllPairs}
 use Rattle.order.proofs.Ascending.{AscFrom, At, below, mem-at, at-mem, at-same, asc-mem, asc-same}
-use Rattle.model.specs.Row.{Row, Table, key, keys}
-use Rattle.model.specs.Cell.{CellEdit, put}
+use Rattle.model.specs.Row.{Row, Table, cell, key, keys}
+use Rattle.model.specs.Cell.{CellEdit, done, agree, put}
 use Rattle.model.specs.Layer.{Deed, add, strike, change, Edit, at, Layer, struck, changed}
 use Rattle.model.specs.Read.{read}
+use Rattle.model.specs.Position.{rowOf}
+use Rattle.model.specs.Edits.{deedBefore, before}
+use Rattle.model.specs.Conflict.{conflict}
+use Rattle.model.specs.Move.{moved, move}
 use Rattle.model.specs.Meaning.{
   keyOf,
   concerning,
@@ -40,11 +46,15 @@ use Rattle.model.specs.Meaning.{
   addFound,
   given,
 }
+use Rattle.model.proofs.Cell.{put-length, put-here, put-elsewhere}
+use Rattle.model.proofs.Edits.{level}
 use Rattle.model.proofs.Layer.{changed-key, of-struck, struck-of}
 use Rattle.model.proofs.Fit.{Fit, key-kept, key-of}
 use Rattle.model.proofs.Read.{Shown, shown, shows-row, shows-add}
 use Rattle.model.proofs.Count.{read-ascends}
-use Rattle.model.proofs.Meaning.{meaning-mem, mem-meaning}
+use Rattle.model.proofs.Move.{Beside, row-at, move-fits, both-orders}
+use Rattle.model.proofs.Demand3.{Tested, beside}
+use Rattle.model.proofs.Meaning.{meaning-mem, mem-meaning, changed-kept}
 
 -- lookup finds a member with the key, and in an ascending table the one that there is; it is missing where no member has the key
 lookup-from : (b : ℕ) (T : Table) → AscFrom key b T → (r : Row) → Mem r T → lookup (key r) T ≡ row r
@@ -59,7 +69,16 @@ pub lookup-none : (T : Table) (k : ℕ) → ((r : Row) → Mem r T → key r ≡
 lookup-none [] k h = refl
 lookup-none (x ∷ T) k h = rw (ne-eqb (key x) k (h x (here refl))) (lookup-none T k (λ r m. h r (next m)))
 
--- what a lookup finds, and what it says where it finds nothing
+pub lookup-found : (T : Table) (k : ℕ) (r : Row) → lookup k T ≡ row r → Mem r T × (key r ≡ k)
+lookup-found [] k r h = absurd (let z : _≡_ {A = ℕ} 0 1 = cc in omega arith)
+lookup-found (x ∷ T) k r h = go (lookup-found T k r) (eqb (key x) k) refl h
+  where
+    go : (lookup k T ≡ row r → Mem r T × (key r ≡ k)) → (t : Bool) → eqb (key x) k ≡ t → cond t (row x) (lookup k T) ≡ row r
+        → Mem r (x ∷ T) × (key r ≡ k)
+    go ih true e f = let rx : r ≡ x = cc in (here rx, ap key rx ∙ eqb-true (key x) k e)
+    go ih false e f = let w = ih f in (next (w .0), w .1)
+
+-- a key is some row's or no row's
 pub data Sought (k : ℕ) (T : Table) : Type 0 where
   found : (r : Row) → Mem r T → key r ≡ k → Sought k T
   nowhere : ((r : Row) → Mem r T → key r ≡ k → ⊥) → Sought k T
@@ -164,6 +183,42 @@ changes-meant K (at s (change j e) ∷ L) g p q h =
     go true ih = ih (put q j e)
     go false ih = ih q
 
+-- a changed cell has its one change done, and every other cell of the row is as it was
+cell-left : (s : ℕ) (L : Layer) (q : Row) (j : ℕ) → ((e : CellEdit) → Mem (at s (change j e)) L → ⊥) → cell j (changed s L q) ≡ cell j q
+cell-left s [] q j h = refl
+cell-left s (at p (add r) ∷ L) q j h = cell-left s L q j (λ e m. h e (next m))
+cell-left s (at p (strike k) ∷ L) q j h = cell-left s L q j (λ e m. h e (next m))
+cell-left s (at p (change i f) ∷ L) q j h = go (λ x. cell-left s L x j (λ e m. h e (next m))) (eqb s p) refl
+  where
+    go : ((x : Row) → cell j (changed s L x) ≡ cell j x) → (t : Bool) → eqb s p ≡ t
+        → cell j (changed s L (cond t (put q i f) q)) ≡ cell j q
+    go ih true e =
+        ih (put q i f) ∙ put-elsewhere q i j f (λ ji.
+        h f (here {x = at p (change i f)} (cc (eqb-true s p e))))
+    go ih false e = ih q
+
+cell-done : (s : ℕ) (L : Layer) (q : Row) (j : ℕ) (e : CellEdit) → AllPairs before L → Mem (at s (change j e)) L → j < length q
+    → cell j (changed s L q) ≡ done e (cell j q)
+cell-done s (d ∷ L) q j e o (here h) l =
+    rw (← h, eq-eqb s s refl) (cell-left s L (put q j e) j none ∙ put-here q j e l)
+  where
+    none : (f : CellEdit) → Mem (at s (change j f)) L → ⊥
+    none f m =
+        let b : deedBefore (change j e) (change j f) ≡ true =
+        level s s (change j e) (change j f) refl (ap (λ (x : Edit). before x (at s (change j f))) h ∙ o .0 (at s (change j f)) m) in
+        omega tests
+cell-done s (at p (add r) ∷ L) q j e o (next m) l = cell-done s L q j e (o .1) m l
+cell-done s (at p (strike k) ∷ L) q j e o (next m) l = cell-done s L q j e (o .1) m l
+cell-done s (at p (change i f) ∷ L) q j e o (next m) l = go (λ x. cell-done s L x j e (o .1) m) (eqb s p) refl
+  where
+    go : ((x : Row) → j < length x → cell j (changed s L x) ≡ done e (cell j x)) → (t : Bool) → eqb s p ≡ t
+        → cell j (changed s L (cond t (put q i f) q)) ≡ done e (cell j q)
+    go ih true g =
+        let b : deedBefore (change i f) (change j e) ≡ true =
+        level p s (change i f) (change j e) (sym (eqb-true s p g)) (o .0 (at s (change j e)) m) in
+        ih (put q i f) (omega (arith, put-length q i f)) ∙ ap (done e) (put-elsewhere q i j f (λ ji. omega tests))
+    go ih false g = ih q l
+
 -- one layer over an ascending table
 module _ (T : Table) (L : Layer) (a : AscFrom key 0 T) (F : Fit T L) (g : ℕ) where
   -- an added row is shown
@@ -204,13 +259,23 @@ module _ (T : Table) (L : Layer) (a : AscFrom key 0 T) (F : Fit T L) (g : ℕ) w
         (λ t. eq-eqb p s (asc-same key T a n (w .1) (kq ∙ (sym (eqb-true (getD (keys T) s 0) g t) ∙ key-of (w .1)))))
         (λ t. eq-eqb (getD (keys T) s 0) g (ap (λ (i : ℕ). getD (keys T) i 0) (sym (eqb-true p s t)) ∙ (key-of n ∙ kq)))
 
-    -- kept, it has its changes
-    pub kept-given : struck p L ≡ false → given (meaning (keys T) L g) (lookup g T) ≡ row (changed p L q)
-    kept-given u =
-        ap (given (meaning (keys T) L g)) (lookup-mem T a g q (at-mem n) kq)
-        ∙ (given-changed (meaning (keys T) L g) (row q)
+    -- the deeds for the group are the edits at its row
+    change-at : (j : ℕ) (e : CellEdit) → Mem (change j e) (meaning (keys T) L g) → Mem (at p (change j e)) L
+    change-at j e m =
+        let w = meaning-mem (keys T) L g (change j e) m in
+        let z = F .changes (w .0) j e (w .1) in
+        mem-cast {b = at (w .0) (change j e)} (ap (λ (t : ℕ). at t (change j e))
+        (asc-same key T a n (z .1) (kq ∙ (sym (w .2) ∙ key-of (z .1))))) (w .1)
+
+    at-change : (j : ℕ) (e : CellEdit) → Mem (at p (change j e)) L → Mem (change j e) (meaning (keys T) L g)
+    at-change j e m = mem-meaning (keys T) L g p (change j e) m (key-of n ∙ kq)
+
+    -- not struck, a row in its place has its changes
+    pub kept-given : struck p L ≡ false → (x : Row) → given (meaning (keys T) L g) (row x) ≡ row (changed p L x)
+    kept-given u x =
+        given-changed (meaning (keys T) L g) (row x)
         (λ r m. true≢false (sym (add-struck r m) ∙ u)) (λ k m. true≢false (sym (strike-here k m) ∙ u))
-        ∙ changes-meant (keys T) L g p q change-here)
+        ∙ changes-meant (keys T) L g p x change-here
 
   -- what stands there is what the deeds for the group make of its row
   stands : (r : Row) → key r ≡ g → Shown 0 T L r → given (meaning (keys T) L g) (lookup g T) ≡ row r
@@ -219,7 +284,8 @@ module _ (T : Table) (L : Layer) (a : AscFrom key 0 T) (F : Fit T L) (g : ℕ) w
       given-added (meaning (keys T) L g) (lookup g T) r m (λ q l. added-once q r l m)
   stands r e (inr w) =
       let kq : key (w .1) ≡ g = sym (changed-key (w .0) L (w .1) (key-kept T L F)) ∙ (sym (ap key (w .4)) ∙ e) in
-      kept-given (w .0) (w .1) (w .2) kq (w .3) ∙ ap row (sym (w .4))
+      ap (given (meaning (keys T) L g)) (lookup-mem T a g (w .1) (at-mem (w .2)) kq)
+      ∙ (kept-given (w .0) (w .1) (w .2) kq (w .3) (w .1) ∙ ap row (sym (w .4)))
 
   -- and where nothing stands they leave nothing
   gone : ((r : Row) → Mem r (read T L) → key r ≡ g → ⊥) → Sought g T → given (meaning (keys T) L g) (lookup g T) ≡ missing
@@ -245,3 +311,37 @@ module _ (T : Table) (L : Layer) (a : AscFrom key 0 T) (F : Fit T L) (g : ℕ) w
       go : Sought g (read T L) → lookup g (read T L) ≡ given (meaning (keys T) L g) (lookup g T)
       go (found r m e) = lookup-mem (read T L) (read-ascends T L a F) g r m e ∙ sym (stands r e (shown 0 T L r m))
       go (nowhere h) = lookup-none (read T L) g h ∙ sym (gone h (sought g T))
+
+-- a gathered list that was mapped before
+module _ {A B C : Type 0} where
+  gather-map : (f : B → List C) (h : A → B) (k : A → List C) (xs : List A) → ((x : A) → Mem x xs → f (h x) ≡ k x)
+      → gather f (map h xs) ≡ gather k xs
+  gather-map f h k [] e = refl
+  gather-map f h k (x ∷ xs) e =
+      let first = e x (here refl) in
+      let rest = gather-map f h k xs (λ y m. e y (next m)) in
+      λ i. first i ++ rest i
+
+-- two sets of edits over one table, free of conflict
+module _ (T : Table) (X Y : Layer) (B : Beside T X Y) where
+  -- moved past Y, a layer means for every group what it meant
+  pub meaning-moved : (g : ℕ) → meaning (keys (read T Y)) (move X Y) g ≡ meaning (keys T) X g
+  unfolding meaning
+  meaning-moved g = gather-map (concerning (keys (read T Y)) g) (moved Y) (concerning (keys T) g) X each
+    where
+      each : (e : Edit) → Mem e X → concerning (keys (read T Y)) g (moved Y e) ≡ concerning (keys T) g e
+      each (at s (add r)) m = refl
+      each (at s (strike k)) m = refl
+      each (at s (change j e)) m =
+          let w = B .mine .changes s j e m in
+          let n = row-at T Y (B .ascends) (B .theirs) s (w .0) (w .1) (B .apart .changes s j e m) in
+          let k : getD (keys (read T Y)) (rowOf Y s) 0 ≡ getD (keys T) s 0 =
+          key-of n ∙ (changed-key s Y (w .0) (key-kept T Y (B .theirs)) ∙ sym (key-of (w .1))) in
+          rw (k)
+
+  pub after-both : (g : ℕ)
+      → lookup g (read (read T Y) (move X Y)) ≡ given (meaning (keys T) X g) (given (meaning (keys T) Y g) (lookup g T))
+  after-both g =
+      one-layer (read T Y) (move X Y) (read-ascends T Y (B .ascends) (B .theirs)) (move-fits T X Y B) g
+      ∙ (ap (λ (ds : List Deed). given ds (lookup g (read T Y))) (meaning-moved g)
+      ∙ ap (given (meaning (keys T) X g)) (one-layer T Y (B .ascends) (B .theirs) g))
