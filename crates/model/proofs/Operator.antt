@@ -20,7 +20,7 @@ use native.Mathlib.Omega.{arith}
 use lib.ListN.{length, getD}
 use lib.Dec.{eqb}
 use borrow.Author.Tests.{eqb-true, eqb-false, eq-eqb, ne-eqb}
-use Rattle.order.specs.Lists.{count, gather, inTurn}
+use Rattle.order.specs.Lists.{count, gather, inTurn, ascending}
 use Rattle.order.proofs.Tests.{tests, same-test, not-passed}
 use Rattle.order.proofs.Counts.{count-le}
 use Rattle.order.proofs.Pairs.{AllPairs}
@@ -48,10 +48,11 @@ use Rattle.model.specs.Meaning.{
 }
 use Rattle.model.proofs.Cell.{put-length, put-here, put-elsewhere}
 use Rattle.model.proofs.Edits.{level}
-use Rattle.model.proofs.Layer.{changed-key, of-struck, struck-of}
+use Rattle.model.proofs.Layer.{changed-key, changed-length, of-struck, struck-of}
 use Rattle.model.proofs.Fit.{Fit, key-kept, key-of}
 use Rattle.model.proofs.Read.{Shown, shown, shows-row, shows-add}
 use Rattle.model.proofs.Count.{read-ascends}
+use Rattle.model.proofs.Conflict.{conflict-sym}
 use Rattle.model.proofs.Move.{Beside, row-at, move-fits, both-orders}
 use Rattle.model.proofs.Demand3.{Tested, beside}
 use Rattle.model.proofs.Meaning.{meaning-mem, mem-meaning, changed-kept}
@@ -322,6 +323,47 @@ module _ {A B C : Type 0} where
       let rest = gather-map f h k xs (λ y m. e y (next m)) in
       λ i. first i ++ rest i
 
+-- the table once Y and then the moved X are read
+abbrev pub together : Table → Layer → Layer → Table
+together T X Y = read (read T Y) (move X Y)
+
+-- deeds leave the cell j of their group alone, or one of them changes it
+abbrev pub Leaves : ℕ → List Deed → Type 0
+Leaves j ds = (e : CellEdit) → Mem (change j e) ds → ⊥
+
+pub data OfCell (j : ℕ) (ds : List Deed) : Type 0 where
+  changes : (e : CellEdit) → Mem (change j e) ds → OfCell j ds
+  leaves : Leaves j ds → OfCell j ds
+
+of-cell : (j : ℕ) (ds : List Deed) → OfCell j ds
+of-cell j [] = leaves (λ e m. not-nil m)
+of-cell j (d ∷ ds) = first d (of-cell j ds)
+  where
+    later : (d : Deed) → ((e : CellEdit) → d ≡ change j e → ⊥) → OfCell j ds → OfCell j (d ∷ ds)
+    later d h (changes e m) = changes e (next m)
+    later d h (leaves k) = leaves neither
+      where
+        neither : Leaves j (d ∷ ds)
+        neither e (here g) = h e (sym g)
+        neither e (next m) = k e m
+
+    first : (d : Deed) → OfCell j ds → OfCell j (d ∷ ds)
+    first (add r) w = later (add r) (λ e h. let z : _≡_ {A = ℕ} 0 1 = cc in omega arith) w
+    first (strike k) w = later (strike k) (λ e h. let z : _≡_ {A = ℕ} 0 1 = cc in omega arith) w
+    first (change i f) w = same (eqb i j) refl
+      where
+        same : (t : Bool) → eqb i j ≡ t → OfCell j (change i f ∷ ds)
+        same true g = changes f (here (ap (λ (t : ℕ). change t f) (sym (eqb-true i j g))))
+        same false g = later (change i f) (λ e h. eqb-false i j g (cc)) w
+
+-- whose the cell j of a group's row is, where my deeds for the group are ds and theirs es
+pub data Whose (ds es : List Deed) (j old new : ℕ) : Type 0 where
+  mine : (e : CellEdit) → Mem (change j e) ds → Leaves j es → new ≡ done e old → Whose ds es j old new
+  theirs : (f : CellEdit) → Mem (change j f) es → Leaves j ds → new ≡ done f old → Whose ds es j old new
+  -- only by edits that agree
+  ours : (e f : CellEdit) → Mem (change j e) ds → Mem (change j f) es → agree e f ≡ true → new ≡ done e (done f old) → Whose ds es j old new
+  base : Leaves j ds → Leaves j es → new ≡ old → Whose ds es j old new
+
 -- two sets of edits over one table, free of conflict
 module _ (T : Table) (X Y : Layer) (B : Beside T X Y) where
   -- moved past Y, a layer means for every group what it meant
@@ -340,8 +382,130 @@ module _ (T : Table) (X Y : Layer) (B : Beside T X Y) where
           rw (k)
 
   pub after-both : (g : ℕ)
-      → lookup g (read (read T Y) (move X Y)) ≡ given (meaning (keys T) X g) (given (meaning (keys T) Y g) (lookup g T))
+      → lookup g (together T X Y) ≡ given (meaning (keys T) X g) (given (meaning (keys T) Y g) (lookup g T))
   after-both g =
       one-layer (read T Y) (move X Y) (read-ascends T Y (B .ascends) (B .theirs)) (move-fits T X Y B) g
       ∙ (ap (λ (ds : List Deed). given ds (lookup g (read T Y))) (meaning-moved g)
       ∙ ap (given (meaning (keys T) X g)) (one-layer T Y (B .ascends) (B .theirs) g))
+
+  -- the base row of a group that neither strikes
+  module _ (g p : ℕ) (q : Row) (n : At q p 0 T) (kq : key q ≡ g) (u : struck p X ≡ false) (v : struck p Y ≡ false) where
+    kept-row : lookup g (together T X Y) ≡ row (changed p X (changed p Y q))
+    kept-row =
+        after-both g
+        ∙ (ap (λ (f : Found). given (meaning (keys T) X g) (given (meaning (keys T) Y g) f)) (lookup-mem T (B .ascends) g q (at-mem n) kq)
+        ∙ (ap (given (meaning (keys T) X g)) (kept-given T Y (B .ascends) (B .theirs) g p q n kq v q)
+        ∙ kept-given T X (B .ascends) (B .mine) g p q n kq u (changed p Y q)))
+
+    mine-done : (j : ℕ) (e : CellEdit) → Mem (change j e) (meaning (keys T) X g) → j < length q
+        → cell j (changed p X (changed p Y q)) ≡ done e (cell j (changed p Y q))
+    mine-done j e m l =
+        cell-done p X (changed p Y q) j e (B .mine .sorted) (change-at T X (B .ascends) (B .mine) g p q n kq j e m)
+        (omega (arith, changed-length p Y q))
+
+    theirs-done : (j : ℕ) (f : CellEdit) → Mem (change j f) (meaning (keys T) Y g) → j < length q → cell j (changed p Y q) ≡ done f (cell j q)
+    theirs-done j f m l = cell-done p Y q j f (B .theirs .sorted) (change-at T Y (B .ascends) (B .theirs) g p q n kq j f m) l
+
+    mine-left : (j : ℕ) → Leaves j (meaning (keys T) X g) → cell j (changed p X (changed p Y q)) ≡ cell j (changed p Y q)
+    mine-left j h = cell-left p X (changed p Y q) j (λ e m. h e (at-change T X (B .ascends) (B .mine) g p q n kq j e m))
+
+    theirs-left : (j : ℕ) → Leaves j (meaning (keys T) Y g) → cell j (changed p Y q) ≡ cell j q
+    theirs-left j h = cell-left p Y q j (λ f m. h f (at-change T Y (B .ascends) (B .theirs) g p q n kq j f m))
+
+    whose : (j : ℕ) → j < length q
+        → Whose (meaning (keys T) X g) (meaning (keys T) Y g) j (cell j q) (cell j (changed p X (changed p Y q)))
+    whose j l = go (of-cell j (meaning (keys T) X g)) (of-cell j (meaning (keys T) Y g))
+      where
+        go : OfCell j (meaning (keys T) X g) → OfCell j (meaning (keys T) Y g)
+            → Whose (meaning (keys T) X g) (meaning (keys T) Y g) j (cell j q) (cell j (changed p X (changed p Y q)))
+        go (changes e m) (changes f k) =
+            ours e f m k
+            (B .apart .cells p j j e f (change-at T X (B .ascends) (B .mine) g p q n kq j e m)
+            (change-at T Y (B .ascends) (B .theirs) g p q n kq j f k) refl)
+            (mine-done j e m l ∙ ap (done e) (theirs-done j f k l))
+        go (changes e m) (leaves k) = mine e m k (mine-done j e m l ∙ ap (done e) (theirs-left j k))
+        go (leaves h) (changes f k) = theirs f k h (mine-left j h ∙ theirs-done j f k l)
+        go (leaves h) (leaves k) = base h k (mine-left j h ∙ theirs-left j k)
+
+-- what becomes of the group g
+pub record Answered (T : Table) (X Y : Layer) (g : ℕ) : Type 0 where
+  -- its row is what both sets' deeds for it, and no other edit, make of its base row
+  pub mine-last : lookup g (together T X Y) ≡ given (meaning (keys T) X g) (given (meaning (keys T) Y g) (lookup g T))
+  -- whichever is done first
+  pub mine-first : lookup g (together T X Y) ≡ given (meaning (keys T) Y g) (given (meaning (keys T) X g) (lookup g T))
+  pub either-way : lookup g (together T X Y) ≡ lookup g (together T Y X)
+
+-- two sets that pass the tests of the paper, free of conflict
+module _ (c : ℕ) (T : Table) (X Y : Layer) (t : ascending (keys T) ≡ true) (GX : Tested c T X) (GY : Tested c T Y)
+    (n : conflict X Y ≡ false) where
+  side : Beside T X Y
+  side = beside c T X Y t GX GY n
+
+  other : Beside T Y X
+  other = beside c T Y X t GY GX (sym (conflict-sym X Y) ∙ n)
+
+  pub operators-question : (g : ℕ) → Answered T X Y g
+  operators-question g =
+      let alike : lookup g (together T X Y) ≡ lookup g (together T Y X) = ap (lookup g) (both-orders T X Y side other) in
+      record { mine-last = after-both T X Y side g; mine-first = alike ∙ after-both T Y X other g; either-way = alike }
+
+  -- a group that neither set touches has its base row, unchanged
+  pub untouched : (g : ℕ) → meaning (keys T) X g ≡ [] → meaning (keys T) Y g ≡ [] → lookup g (together T X Y) ≡ lookup g T
+  unfolding given
+  untouched g e f = (operators-question g) .mine-last ∙ rw (e, f)
+
+  -- a group that only one set touches is as that set alone makes it
+  pub mine-alone : (g : ℕ) → meaning (keys T) Y g ≡ [] → lookup g (together T X Y) ≡ lookup g (read T X)
+  unfolding given
+  mine-alone g f =
+      (operators-question g) .mine-first ∙ (rw (f) (sym (one-layer T X (side .ascends) (side .mine) g)))
+
+  pub theirs-alone : (g : ℕ) → meaning (keys T) X g ≡ [] → lookup g (together T X Y) ≡ lookup g (read T Y)
+  unfolding given
+  theirs-alone g e =
+      (operators-question g) .mine-last ∙ (rw (e) (sym (one-layer T Y (side .ascends) (side .theirs) g)))
+
+  -- a group that neither strikes keeps its row, and each cell of it is whose change it is
+  pub whose-cell : (g : ℕ) (q : Row) → lookup g T ≡ row q
+      → ((k : ℕ) → Mem (strike k) (meaning (keys T) X g) → ⊥) → ((k : ℕ) → Mem (strike k) (meaning (keys T) Y g) → ⊥)
+      → (r : Row) × (lookup g (together T X Y) ≡ row r)
+      × ((j : ℕ) → j < length q → Whose (meaning (keys T) X g) (meaning (keys T) Y g) j (cell j q) (cell j r))
+  whose-cell g q h noX noY =
+      (changed p X (changed p Y q), kept-row T X Y side g p q at-p kq u v, whose T X Y side g p q at-p kq u v)
+    where
+      p : ℕ
+      p = (mem-at 0 T q ((lookup-found T g q h) .0)) .0
+
+      at-p : At q p 0 T
+      at-p = (mem-at 0 T q ((lookup-found T g q h) .0)) .1
+
+      kq : key q ≡ g
+      kq = (lookup-found T g q h) .1
+
+      kept : (L : Layer) → Fit T L → ((k : ℕ) → Mem (strike k) (meaning (keys T) L g) → ⊥) → struck p L ≡ false
+      kept L F none =
+          not-passed (struck p L) (λ u. let w = here-strike T L (side .ascends) F g p q at-p kq u in none (w .0) (w .1))
+
+      u : struck p X ≡ false
+      u = kept X (side .mine) noX
+
+      v : struck p Y ≡ false
+      v = kept Y (side .theirs) noY
+
+  -- a cell that only my set changes is what my change makes of it
+  pub mine-cell : (g j : ℕ) (e : CellEdit) → Mem (change j e) (meaning (keys T) X g) → Leaves j (meaning (keys T) Y g)
+      → (q : Row) × (r : Row) × (lookup g T ≡ row q) × (lookup g (together T X Y) ≡ row r)
+      × (j < length q → cell j r ≡ done e (cell j q))
+  mine-cell g j e m none =
+      let w = meaning-mem (keys T) X g (change j e) m in
+      let z = side .mine .changes (w .0) j e (w .1) in
+      let kq : key (z .0) ≡ g = sym (key-of (z .1)) ∙ w .2 in
+      let u : struck (w .0) X ≡ false = changed-kept X (side .mine .sorted) (w .0) j e (w .1) in
+      let v : struck (w .0) Y ≡ false = side .apart .changes (w .0) j e (w .1) in (
+        z .0,
+        changed (w .0) X (changed (w .0) Y (z .0)),
+        lookup-mem T (side .ascends) g (z .0) (at-mem (z .1)) kq,
+        kept-row T X Y side g (w .0) (z .0) (z .1) kq u v,
+        λ l. mine-done T X Y side g (w .0) (z .0) (z .1) kq u v j e m l
+            ∙ ap (done e) (theirs-left T X Y side g (w .0) (z .0) (z .1) kq u v j none),
+      )
