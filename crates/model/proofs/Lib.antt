@@ -9,7 +9,10 @@ pub mod Conflict
 pub mod Move
 pub mod Redo
 pub mod Demand3
+pub mod Column
+pub mod Origin
 pub mod Examples
+pub mod Position
 pub mod Meaning
 pub mod Canonical
 pub mod Operator
