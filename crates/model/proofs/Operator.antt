@@ -1,7 +1,7 @@
 -- Which group gets my change: the row of a group after a layer is what the layer's deeds for that group make of it.
 -- Assumes nothing.
 use mathlib.Core.Path.{_≡_, refl, sym, ap, _∙_}
-use mathlib.Core.Logic.{_⊎_, inl, inr}
+use mathlib.Core.Logic.{inl, inr}
 use mathlib.Core.Bool.{Bool, true, false, cond, true≢false}
 use mathlib.Core.List.{
   List,
@@ -15,12 +15,12 @@ use mathlib.Core.List.{
   List·Memᴰ·not-nil as not-nil,
   Memᴰ·cast as mem-cast,
 }
-use Prim.Native.Nat.{ℕ, zero, suc, _+_, _≤_, _<_}
+use Prim.Native.Nat.{ℕ, suc, _<_}
 use native.Mathlib.Omega.{arith}
 use lib.ListN.{length, getD}
 use lib.Dec.{eqb}
 use borrow.Author.Tests.{eqb-true, eqb-false, eq-eqb, ne-eqb}
-use Rattle.order.specs.Lists.{count, gather, inTurn, ascending}
+use Rattle.order.specs.Lists.{gather, inTurn, ascending}
 use Rattle.order.proofs.Tests.{tests, same-test, not-passed}
 use Rattle.order.proofs.Counts.{count-le}
 use Rattle.order.proofs.Pairs.{AllPairs}
@@ -34,7 +34,6 @@ use Rattle.model.specs.Edits.{deedBefore, before}
 use Rattle.model.specs.Conflict.{conflict}
 use Rattle.model.specs.Move.{moved, move}
 use Rattle.model.specs.Meaning.{
-  keyOf,
   concerning,
   meaning,
   Found,
@@ -111,7 +110,8 @@ adds-same (add q ∷ ds) r h = ap (λ (x : Row). inTurn addFound ds (row x)) (h 
 adds-same (strike k ∷ ds) r h = adds-same ds r (λ x m. h x (next m))
 adds-same (change j e ∷ ds) r h = adds-same ds r (λ x m. h x (next m))
 
-adds-one : (ds : List Deed) (f : Found) (r : Row) → Mem (add r) ds → ((q : Row) → Mem (add q) ds → q ≡ r) → inTurn addFound ds f ≡ row r
+adds-one : (ds : List Deed) (f : Found) (r : Row) → Mem (add r) ds → ((q : Row) → Mem (add q) ds → q ≡ r)
+    → inTurn addFound ds f ≡ row r
 adds-one (d ∷ ds) f r (here e) h = rw (← e) (adds-same ds r (λ q m. h q (next m)))
 adds-one (d ∷ ds) f r (next m) h = adds-one ds (addFound d f) r m (λ q n. h q (next n))
 
@@ -185,7 +185,8 @@ changes-meant K (at s (change j e) ∷ L) g p q h =
     go false ih = ih q
 
 -- a changed cell has its one change done, and every other cell of the row is as it was
-cell-left : (s : ℕ) (L : Layer) (q : Row) (j : ℕ) → ((e : CellEdit) → Mem (at s (change j e)) L → ⊥) → cell j (changed s L q) ≡ cell j q
+cell-left : (s : ℕ) (L : Layer) (q : Row) (j : ℕ) → ((e : CellEdit) → Mem (at s (change j e)) L → ⊥)
+    → cell j (changed s L q) ≡ cell j q
 cell-left s [] q j h = refl
 cell-left s (at p (add r) ∷ L) q j h = cell-left s L q j (λ e m. h e (next m))
 cell-left s (at p (strike k) ∷ L) q j h = cell-left s L q j (λ e m. h e (next m))
@@ -361,7 +362,8 @@ pub data Whose (ds es : List Deed) (j old new : ℕ) : Type 0 where
   mine : (e : CellEdit) → Mem (change j e) ds → Leaves j es → new ≡ done e old → Whose ds es j old new
   theirs : (f : CellEdit) → Mem (change j f) es → Leaves j ds → new ≡ done f old → Whose ds es j old new
   -- only by edits that agree
-  ours : (e f : CellEdit) → Mem (change j e) ds → Mem (change j f) es → agree e f ≡ true → new ≡ done e (done f old) → Whose ds es j old new
+  ours : (e f : CellEdit) → Mem (change j e) ds → Mem (change j f) es → agree e f ≡ true → new ≡ done e (done f old)
+      → Whose ds es j old new
   base : Leaves j ds → Leaves j es → new ≡ old → Whose ds es j old new
 
 -- two sets of edits over one table, free of conflict
@@ -393,7 +395,8 @@ module _ (T : Table) (X Y : Layer) (B : Beside T X Y) where
     kept-row : lookup g (together T X Y) ≡ row (changed p X (changed p Y q))
     kept-row =
         after-both g
-        ∙ (ap (λ (f : Found). given (meaning (keys T) X g) (given (meaning (keys T) Y g) f)) (lookup-mem T (B .ascends) g q (at-mem n) kq)
+        ∙ (ap (λ (f : Found). given (meaning (keys T) X g) (given (meaning (keys T) Y g) f))
+        (lookup-mem T (B .ascends) g q (at-mem n) kq)
         ∙ (ap (given (meaning (keys T) X g)) (kept-given T Y (B .ascends) (B .theirs) g p q n kq v q)
         ∙ kept-given T X (B .ascends) (B .mine) g p q n kq u (changed p Y q)))
 
@@ -403,7 +406,8 @@ module _ (T : Table) (X Y : Layer) (B : Beside T X Y) where
         cell-done p X (changed p Y q) j e (B .mine .sorted) (change-at T X (B .ascends) (B .mine) g p q n kq j e m)
         (omega (arith, changed-length p Y q))
 
-    theirs-done : (j : ℕ) (f : CellEdit) → Mem (change j f) (meaning (keys T) Y g) → j < length q → cell j (changed p Y q) ≡ done f (cell j q)
+    theirs-done : (j : ℕ) (f : CellEdit) → Mem (change j f) (meaning (keys T) Y g) → j < length q
+        → cell j (changed p Y q) ≡ done f (cell j q)
     theirs-done j f m l = cell-done p Y q j f (B .theirs .sorted) (change-at T Y (B .ascends) (B .theirs) g p q n kq j f m) l
 
     mine-left : (j : ℕ) → Leaves j (meaning (keys T) X g) → cell j (changed p X (changed p Y q)) ≡ cell j (changed p Y q)
