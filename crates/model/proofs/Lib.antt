@@ -11,4 +11,5 @@ pub mod Redo
 pub mod Demand3
 pub mod Column
 pub mod Origin
+pub mod Edited
 pub mod Examples
