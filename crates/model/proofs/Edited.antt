@@ -33,6 +33,7 @@ use borrow.Author.Tests.{
   eq-eqb,
   ne-eqb,
   not-true,
+  not-false,
 }
 use Rattle.order.specs.Lists.{count, filter, insert, without, inTurn}
 use Rattle.order.proofs.Tests.{tests, and-l, and-r, and-of, same-test, not-passed}
@@ -77,6 +78,7 @@ use Rattle.model.specs.Layer.{
   Edit,
   at,
   Layer,
+  position,
   rowsAfter,
   changesRow,
   changesCell,
@@ -112,7 +114,7 @@ use Rattle.model.proofs.Fit.{Fit, Good, key-kept, key-of, keys-length, 
 use Rattle.model.proofs.Count.{read-ascends, read-length}
 use Rattle.model.proofs.Redo.{strike-mem, mem-strike, strike-asc, change-asc, add-asc, putKey-key}
 use Rattle.model.proofs.Column.{keys-read}
-use Rattle.model.proofs.Origin.{Stands, RowOrigin, back-row}
+use Rattle.model.proofs.Origin.{RowOrigin, back-row, base-at, added-at}
 
 -- an edit entered, and the others
 abbrev kind : Edit → ℕ
@@ -313,3 +315,232 @@ module _ (c : ℕ) (T : Table) (L : Layer) (a : AscFrom key 0 T) (G : Good c T L
 pub add-length : (K : List ℕ) (r : Row) (L : Layer) → length (addRow K r L) ≡ suc (length L)
 unfolding addRow
 add-length K r L = length-insert before (at (keysBelow (key r) K) (add r)) L
+
+-- The added entry number i, which adds q, disappears or is replaced.
+module _ (c : ℕ) (T : Table) (L : Layer) (a : AscFrom key 0 T) (G : Good c T L) (i p : ℕ) (q : Row) (n : At (at p (add q)) i 0 L) where
+  left : StrikesIn L (without i L)
+  left s k m = ⊎-elim (λ g. absurd (omega (arith, ap kind g))) (λ w. w) (mem-without i L (at p (add q)) (at s (strike k)) n m)
+
+  lost-good : Good c T (without i L)
+  lost-good = good-less c T L (without i L) G (without-mem i L) left (pairs-without before i L (G .fit .sorted))
+
+  lost-struck : (s : ℕ) → struck s (without i L) ≡ struck s L
+  lost-struck = struck-same L (without i L) left (λ s k m. without-mem i L (at s (strike k)) m)
+
+  lost-changed : (s : ℕ) (x : Row) → changed s (without i L) x ≡ changed s L x
+  lost-changed s x = turn-without (changeRow s) i L (at p (add q)) x n (λ y. refl)
+
+  -- no other add has the key
+  only : (s : ℕ) (r : Row) → Mem (at s (add r)) (without i L) → key r ≡ key q → ⊥
+  only s r m e =
+      ⊎-elim (λ f. omega (tests, level p s (add q) (add r) same f)) (λ f. omega (tests, level s p (add r) (add q) (sym same) f))
+      (apart-without before i L (at p (add q)) (at s (add r)) (G .fit .sorted) n m)
+    where
+      same : p ≡ s
+      same =
+          omega (
+            arith,
+            G .fit .sits p q (at-mem n),
+            G .fit .sits s r (without-mem i L (at s (add r)) m),
+            ap (λ (k : ℕ). count (below key k) T) e,
+          )
+
+  lost-shown : (x : Row) → Mem x (read T (without i L)) → Mem x (strikeKey (key q) (read T L))
+  lost-shown x m = go (shown 0 T (without i L) x m)
+    where
+      go : Shown 0 T (without i L) x → Mem x (strikeKey (key q) (read T L))
+      go (inl w) =
+          mem-strike (key q) (read T L) x (shows T L (G .fit) x (inl (w .0, without-mem i L (at (w .0) (add x)) (w .1)))) (only (w .0) x (w .1))
+      go (inr w) =
+          let b = base-same T (without i L) L (λ s. sym (lost-struck s)) (λ s y. sym (lost-changed s y)) x w in
+          mem-strike (key q) (read T L) x (shows T L (G .fit) x (inr b))
+          (λ e. add-unlike T L (G .fit) p (b .0) q (b .1) (at-mem n) (b .2) (b .3)
+          (sym (changed-key (b .0) L (b .1) (key-kept T L (G .fit))) ∙ (ap key (sym (b .4)) ∙ e)))
+
+  shown-lost : (x : Row) → Mem x (strikeKey (key q) (read T L)) → Mem x (read T (without i L))
+  shown-lost x m = let w = strike-mem (key q) (read T L) x m in shows T (without i L) (lost-good .fit) x (go (w .1) (shown 0 T L x (w .0)))
+    where
+      go : (key x ≡ key q → ⊥) → Shown 0 T L x → Shown 0 T (without i L) x
+      go h (inl w) =
+          inl (w .0, ⊎-elim (λ g. absurd (h (ap key (row g)))) (λ z. z) (mem-without i L (at p (add q)) (at (w .0) (add x)) n (w .1)))
+        where
+          row : at (w .0) (add x) ≡ at p (add q) → x ≡ q
+          row g = cc
+      go h (inr w) = inr (base-same T L (without i L) lost-struck lost-changed x w)
+
+  lost-reads : read T (without i L) ≡ strikeKey (key q) (read T L)
+  lost-reads =
+      ext key (read T (without i L)) (strikeKey (key q) (read T L)) (read-ascends T (without i L) a (lost-good .fit))
+      (strike-asc (key q) (read T L) (read-ascends T L a (G .fit))) lost-shown shown-lost
+
+-- Base row s, which is not struck, gets an entry; those that `keeps` drops, changes of row s, go.
+module _ (c : ℕ) (T : Table) (L : Layer) (a : AscFrom key 0 T) (G : Good c T L) (s : ℕ) (b : Row) (n : At b s 0 T) (u : struck s L ≡ false)
+    (keeps : Edit → Bool) (drops : (e : Edit) → keeps e ≡ false → changesRow s e ≡ true) where
+  thin-in : (e : Edit) → Mem e (filter keeps L) → Mem e L
+  thin-in e m = (filter-mem keeps L e m) .0
+
+  stays : (e : Edit) → changesRow s e ≡ false → Mem e L → Mem e (filter keeps L)
+  stays e h m = mem-filter keeps L e m (go (keeps e) refl)
+    where
+      go : (t : Bool) → keeps e ≡ t → keeps e ≡ true
+      go true f = f
+      go false f = absurd (true≢false (sym (drops e f) ∙ h))
+
+  thin-good : Good c T (filter keeps L)
+  thin-good =
+      good-less c T L (filter keeps L) G thin-in (λ p k m. stays (at p (strike k)) refl m) (pairs-filter before keeps L (G .fit .sorted))
+
+  -- no strike stands at s
+  no-strike : (p k : ℕ) → Mem (at p (strike k)) (filter keeps L) → p ≡ s → ⊥
+  no-strike p k m e = true≢false (sym (ap (λ (t : ℕ). struck t L) (sym e) ∙ struck-of p k L (thin-in (at p (strike k)) m)) ∙ u)
+
+  -- the other rows are changed as before
+  elsewhere : (d : Deed) → ((p : ℕ) (x : Row) → (p ≡ s → ⊥) → changeRow p (at s d) x ≡ x)
+      → (p : ℕ) (x : Row) → (p ≡ s → ⊥) → changed p (enter (at s d) (filter keeps L)) x ≡ changed p L x
+  elsewhere d h p x ne =
+      turn-insert (changeRow p) before (at s d) (filter keeps L) x (λ y. h p y ne) ∙ turn-filter (changeRow p) keeps L x pass
+    where
+      pass : (e : Edit) → keeps e ≡ false → (y : Row) → changeRow p e y ≡ y
+      pass (at t (add r)) f y = refl
+      pass (at t (strike k)) f y = refl
+      pass (at t (change j g)) f y = rw (ne-eqb p t (λ w. ne (w ∙ sym (eqb-true s t (drops (at t (change j g)) f)))))
+
+  -- the adds are those of before
+  adds-kept : (d : Deed) (p : ℕ) (r : Row) → Mem (at p (add r)) L → Mem (at p (add r)) (enter (at s d) (filter keeps L))
+  adds-kept d p r m = still (at s d) (at p (add r)) (filter keeps L) (stays (at p (add r)) refl m)
+
+  adds-old : (d : Deed) → (kind (at s d) ≡ 0 → ⊥) → (p : ℕ) (r : Row) → Mem (at p (add r)) (enter (at s d) (filter keeps L)) → Mem (at p (add r)) L
+  adds-old d h p r m = thin-in (at p (add r)) (old (at s d) (at p (add r)) (filter keeps L) (λ g. h (sym (ap kind g))) m)
+
+  -- and so are the strikes, but for the entry
+  strikes-kept : (d : Deed) → StrikesIn L (enter (at s d) (filter keeps L))
+  strikes-kept d p k m = still (at s d) (at p (strike k)) (filter keeps L) (stays (at p (strike k)) refl m)
+
+  strikes-old : (d : Deed) (p k : ℕ) → (at p (strike k) ≡ at s d → ⊥) → Mem (at p (strike k)) (enter (at s d) (filter keeps L)) → Mem (at p (strike k)) L
+  strikes-old d p k h m = thin-in (at p (strike k)) (old (at s d) (at p (strike k)) (filter keeps L) h m)
+
+-- the edits that are no change of row s
+abbrev unchanged : ℕ → Edit → Bool
+unchanged s e = not (changesRow s e)
+
+gone : (s : ℕ) (e : Edit) → unchanged s e ≡ false → changesRow s e ≡ true
+gone s e h = not-false (changesRow s e) h
+
+-- Base row s is struck.
+module _ (c : ℕ) (T : Table) (L : Layer) (a : AscFrom key 0 T) (G : Good c T L) (s : ℕ) (b : Row) (n : At b s 0 T) (u : struck s L ≡ false) where
+  bare-beside : Beside (filter (unchanged s) L) s (strike (getD (keys T) s 0))
+  bare-beside p (add r) m e = inl refl
+  bare-beside p (strike k) m e = absurd (no-strike c T L a G s b n u (unchanged s) (gone s) p k m e)
+  bare-beside p (change j f) m e =
+      absurd (eqb-false s p (not-true (eqb s p) ((filter-mem (unchanged s) L (at p (change j f)) m) .1)) (sym e))
+
+  strikeBase-good : Good c T (strikeBase (keys T) s L)
+  unfolding strikeBase
+  strikeBase-good =
+      good-enter c T (filter (unchanged s) L) s (strike (getD (keys T) s 0)) (thin-good c T L a G s b n u (unchanged s) (gone s))
+      (lt-ltb s (length T) (omega (arith, at-length n))) (b, n, sym (key-of n)) bare-beside
+
+  struck-here : struck s (strikeBase (keys T) s L) ≡ true
+  unfolding strikeBase
+  struck-here =
+      struck-of s (getD (keys T) s 0) (strikeBase (keys T) s L)
+      (mem-insert before (at s (strike (getD (keys T) s 0))) (filter (unchanged s) L) (at s (strike (getD (keys T) s 0))) (inl refl))
+
+  struck-there : (p : ℕ) → (p ≡ s → ⊥) → struck p (strikeBase (keys T) s L) ≡ struck p L
+  unfolding strikeBase
+  struck-there p ne =
+      same-test (struck p (strikeBase (keys T) s L)) (struck p L) down
+      (struck-in L (strikeBase (keys T) s L) (strikes-kept c T L a G s b n u (unchanged s) (gone s) (strike (getD (keys T) s 0))) p)
+    where
+      down : struck p (strikeBase (keys T) s L) ≡ true → struck p L ≡ true
+      down e =
+          let w = of-struck p (strikeBase (keys T) s L) e in
+          struck-of p (w .0) L
+          (strikes-old c T L a G s b n u (unchanged s) (gone s) (strike (getD (keys T) s 0)) p (w .0) (λ g. ne (ap position g)) (w .1))
+
+  changed-there : (p : ℕ) (x : Row) → (p ≡ s → ⊥) → changed p (strikeBase (keys T) s L) x ≡ changed p L x
+  unfolding strikeBase
+  changed-there = elsewhere c T L a G s b n u (unchanged s) (gone s) (strike (getD (keys T) s 0)) (λ p x ne. refl)
+
+  -- another base row has another key
+  other-key : (p : ℕ) (q : Row) → At q p 0 T → (p ≡ s → ⊥) → key (changed p L q) ≡ key b → ⊥
+  other-key p q m ne e = ne (asc-same key T a m n (sym (changed-key p L q (key-kept T L (G .fit))) ∙ e))
+
+  strikeBase-shown : (x : Row) → Mem x (read T (strikeBase (keys T) s L)) → Mem x (strikeKey (key b) (read T L))
+  unfolding strikeBase
+  strikeBase-shown x m = go (shown 0 T (strikeBase (keys T) s L) x m)
+    where
+      row : (p : ℕ) (q : Row) → At q p 0 T → struck p (strikeBase (keys T) s L) ≡ false → x ≡ changed p (strikeBase (keys T) s L) q
+          → (p ≡ s → ⊥) → Mem x (strikeKey (key b) (read T L))
+      row p q k v e ne =
+          let g : x ≡ changed p L q = e ∙ changed-there p q ne in
+          mem-strike (key b) (read T L) x (shows T L (G .fit) x (inr (p, q, k, sym (struck-there p ne) ∙ v, g)))
+          (λ h. other-key p q k ne (ap key (sym g) ∙ h))
+
+      go : Shown 0 T (strikeBase (keys T) s L) x → Mem x (strikeKey (key b) (read T L))
+      go (inl w) =
+          let k = adds-old c T L a G s b n u (unchanged s) (gone s) (strike (getD (keys T) s 0)) (λ g. omega arith) (w .0) x (w .1) in
+          mem-strike (key b) (read T L) x (shows T L (G .fit) x (inl (w .0, k)))
+          (λ h. add-unlike T L (G .fit) (w .0) s x b k n u (sym h))
+      go (inr w) =
+          row (w .0) (w .1) (w .2) (w .3) (w .4)
+          (λ g. true≢false (sym struck-here ∙ (ap (λ (t : ℕ). struck t (strikeBase (keys T) s L)) (sym g) ∙ w .3)))
+
+  shown-strikeBase : (x : Row) → Mem x (strikeKey (key b) (read T L)) → Mem x (read T (strikeBase (keys T) s L))
+  unfolding strikeBase
+  shown-strikeBase x m =
+      let w = strike-mem (key b) (read T L) x m in
+      shows T (strikeBase (keys T) s L) (strikeBase-good .fit) x (go (w .1) (shown 0 T L x (w .0)))
+    where
+      row : (p : ℕ) (q : Row) → At q p 0 T → struck p L ≡ false → x ≡ changed p L q → (p ≡ s → ⊥) → Shown 0 T (strikeBase (keys T) s L) x
+      row p q k v e ne = inr (p, q, k, struck-there p ne ∙ v, e ∙ sym (changed-there p q ne))
+
+      go : (key x ≡ key b → ⊥) → Shown 0 T L x → Shown 0 T (strikeBase (keys T) s L) x
+      go h (inl w) = inl (w .0, adds-kept c T L a G s b n u (unchanged s) (gone s) (strike (getD (keys T) s 0)) (w .0) x (w .1))
+      go h (inr w) =
+          row (w .0) (w .1) (w .2) (w .3) (w .4)
+          (λ g. h (ap key (w .4) ∙ (changed-key (w .0) L (w .1) (key-kept T L (G .fit)) ∙ ap key (at-same (at-cast g (w .2)) n))))
+
+  strikeBase-reads : read T (strikeBase (keys T) s L) ≡ strikeKey (key b) (read T L)
+  strikeBase-reads =
+      ext key (read T (strikeBase (keys T) s L)) (strikeKey (key b) (read T L))
+      (read-ascends T (strikeBase (keys T) s L) a (strikeBase-good .fit)) (strike-asc (key b) (read T L) (read-ascends T L a (G .fit)))
+      strikeBase-shown shown-strikeBase
+
+-- Strike row number i, where q is shown.
+module _ (c : ℕ) (T : Table) (L : Layer) (a : AscFrom key 0 T) (G : Good c T L) (i : ℕ) (q : Row) (n : At q i 0 (read T L)) where
+  strike-origin : (o : Origin) → RowOrigin T L q o → Reads c T (strikeOrigin (keys T) L o) (strikeKey (key q) (read T L))
+  strike-origin (base s) O =
+      let w = base-at T L q s O in
+      let k : key q ≡ key (w .0) = ap key (w .3) ∙ changed-key s L (w .0) (key-kept T L (G .fit)) in
+      record {
+        good = strikeBase-good c T L a G s (w .0) (w .1) (w .2);
+        reads = rw (k) (strikeBase-reads c T L a G s (w .0) (w .1) (w .2));
+      }
+  strike-origin (added e) O =
+      let w = added-at T L q e O in
+      record { good = lost-good c T L a G e (w .0) q (w .1); reads = lost-reads c T L a G e (w .0) q (w .1) }
+
+  struck-row : Reads c T (strikeRow (keys T) i L) (strikeKey (key q) (read T L))
+  unfolding strikeRow
+  struck-row = rw (keys-length T) (strike-origin (back (length T) L i) (back-row T L i q n))
+
+  pub strike-good : Good c T (strikeRow (keys T) i L)
+  strike-good = struck-row .good
+
+  pub strike-reads : read T (strikeRow (keys T) i L) ≡ strikeKey (key q) (read T L)
+  strike-reads = struck-row .reads
+
+  -- the rows without row number i
+  pub strike-row : read T (strikeRow (keys T) i L) ≡ without i (read T L)
+  strike-row = strike-reads ∙ filter-without key 0 i (read T L) q (read-ascends T L a (G .fit)) n
+
+  pub strike-rows : suc (rowsAfter (length T) (strikeRow (keys T) i L)) ≡ rowsAfter (length T) L
+  strike-rows =
+      omega (
+        arith,
+        read-length T (strikeRow (keys T) i L) (strike-good .fit),
+        read-length T L (G .fit),
+        ap length strike-row,
+        length-without i (read T L) (omega (arith, at-length n)),
+      )
