@@ -56,6 +56,8 @@ use Rattle.order.proofs.Ascending.{
   ext,
 }
 use Rattle.order.proofs.Edited.{
+  at-head,
+  at-tail,
   without-mem,
   mem-without,
   length-without,
@@ -544,3 +546,298 @@ module _ (c : ℕ) (T : Table) (L : Layer) (a : AscFrom key 0 T) (G : Good c T L
         ap length strike-row,
         length-without i (read T L) (omega (arith, at-length n)),
       )
+
+-- an edit of a cell forgets an earlier one
+pub done-over : (e f : CellEdit) (v : ℕ) → done e (done f v) ≡ done e v
+done-over (to w) f v = refl
+
+put-over : (r : Row) (j : ℕ) (e f : CellEdit) → put (put r j f) j e ≡ put r j e
+unfolding put
+put-over r j e f = go (ltb j (length r)) refl
+  where
+    go : (t : Bool) → ltb j (length r) ≡ t → put (put r j f) j e ≡ put r j e
+    go true h =
+        ap (λ (v : ℕ). set (set r j (done f (cell j r))) j (done e v)) (getD-set-same r j (done f (cell j r)) 0 (ltb-true j (length r) h))
+        ∙ (ap (λ (v : ℕ). set (set r j (done f (cell j r))) j v) (done-over e f (cell j r)) ∙ set-set r j (done f (cell j r)) (done e (cell j r)))
+    go false h = ap (λ (q : Row). put q j e) (set-out r j (done f (cell j r)) (ltb-false j (length r) h))
+
+-- the row that a change leaves, where no other change is of that cell
+abbrev oneChange : ℕ → ℕ → CellEdit → Layer
+oneChange s j e = at s (change j e) ∷ []
+
+changed-one : (s j : ℕ) (e : CellEdit) (q : Row) → changed s (oneChange s j e) q ≡ put q j e
+changed-one s j e q = rw (eq-eqb s s refl)
+
+changed-enter : (s j : ℕ) (e : CellEdit) (M : Layer) (q : Row) → ((i : ℕ) (f : CellEdit) → Mem (at s (change i f)) M → i ≡ j → ⊥)
+    → changed s (enter (at s (change j e)) M) q ≡ put (changed s M q) j e
+changed-enter s j e [] q h = changed-one s j e q
+changed-enter s j e (x ∷ M) q h =
+    go (changed-enter s j e M (changeRow s x q) (λ i f m. h i f (next m))) (before x (at s (change j e)))
+  where
+    trade : Trade s (x ∷ M) (oneChange s j e)
+    trade i k f g m o ik = absurd (h i f m (ik ∙ column-of (eq-of-singleton o)))
+      where
+        column-of : at s (change k g) ≡ at s (change j e) → k ≡ j
+        column-of w = cc
+
+    go : changed s (enter (at s (change j e)) M) (changeRow s x q) ≡ put (changed s M (changeRow s x q)) j e → (t : Bool)
+        → changed s (cond t (x ∷ enter (at s (change j e)) M) (at s (change j e) ∷ x ∷ M)) q ≡ put (changed s (x ∷ M) q) j e
+    go ih true = ih
+    go ih false = changed-comm s (x ∷ M) (oneChange s j e) q trade ∙ changed-one s j e (changed s (x ∷ M) q)
+
+-- changes of that cell that are gone do not matter
+abbrev otherCell : ℕ → ℕ → Edit → Bool
+otherCell s j d = not (changesCell s j d)
+
+changed-filter : (s j : ℕ) (e : CellEdit) (L : Layer) (q r : Row) → put q j e ≡ put r j e
+    → put (changed s (filter (otherCell s j) L) q) j e ≡ put (changed s L r) j e
+changed-filter s j e [] q r h = h
+changed-filter s j e (at p (add x) ∷ L) q r h = changed-filter s j e L q r h
+changed-filter s j e (at p (strike k) ∷ L) q r h = changed-filter s j e L q r h
+changed-filter s j e (at p (change i f) ∷ L) q r h = go (λ x y g. changed-filter s j e L x y g) (eqb s p) refl (eqb j i) refl
+  where
+    unfolded : {t : Bool} → eqb s p ≡ t
+        → put (changed s (at p (change i f) ∷ filter (otherCell s j) L) q) j e ≡ put (changed s (filter (otherCell s j) L) (cond t (put q i f) q)) j e
+    unfolded g = ap (λ (b : Bool). put (changed s (filter (otherCell s j) L) (cond b (put q i f) q)) j e) g
+
+    go : ((x y : Row) → put x j e ≡ put y j e → put (changed s (filter (otherCell s j) L) x) j e ≡ put (changed s L y) j e)
+        → (t : Bool) → eqb s p ≡ t → (u : Bool) → eqb j i ≡ u
+        → put (changed s (cond (not (t && u)) (at p (change i f) ∷ filter (otherCell s j) L) (filter (otherCell s j) L)) q) j e
+        ≡ put (changed s L (cond t (put r i f) r)) j e
+    go ih true sp true ji = ih q (put r i f) (h ∙ (sym (put-over r j e f) ∙ ap (λ (k : ℕ). put (put r k f) j e) (eqb-true j i ji)))
+    go ih true sp false ji = unfolded sp ∙ ih (put q i f) (put r i f) (swap q ∙ (ap (λ (x : Row). put x i f) h ∙ sym (swap r)))
+      where
+        swap : (x : Row) → put (put x i f) j e ≡ put (put x j e) i f
+        swap x = put-comm x i j f e (λ g. absurd (eqb-false j i ji (sym g)))
+    go ih false sp u ji = unfolded sp ∙ ih q r h
+
+cell-gone : (s j : ℕ) (d : Edit) → otherCell s j d ≡ false → changesRow s d ≡ true
+cell-gone s j (at p (add r)) h = absurd (true≢false h)
+cell-gone s j (at p (strike k)) h = absurd (true≢false h)
+cell-gone s j (at p (change i f)) h = and-l (eqb s p) (eqb j i) (not-false (eqb s p && eqb j i) h)
+
+putKey-same : (k j : ℕ) (e : CellEdit) (x : Row) → key x ≡ k → putKey k j e x ≡ put x j e
+putKey-same k j e x h = rw (eq-eqb (key x) k h)
+
+putKey-other : (k j : ℕ) (e : CellEdit) (x : Row) → (key x ≡ k → ⊥) → putKey k j e x ≡ x
+putKey-other k j e x h = rw (ne-eqb (key x) k h)
+
+-- Column j of base row s is changed.
+module _ (c : ℕ) (T : Table) (L : Layer) (a : AscFrom key 0 T) (G : Good c T L) (s : ℕ) (b : Row) (n : At b s 0 T) (u : struck s L ≡ false)
+    (j : ℕ) (e : CellEdit) (past : 1 ≤ j) (within : j < c) where
+  other-columns : (p i : ℕ) (f : CellEdit) → Mem (at p (change i f)) (filter (otherCell s j) L) → p ≡ s → i ≡ j → ⊥
+  other-columns p i f m ps ij =
+      let w = (filter-mem (otherCell s j) L (at p (change i f)) m) .1 in
+      true≢false (sym (and-of (eqb s p) (eqb j i) (eq-eqb s p (sym ps)) (eq-eqb j i (sym ij))) ∙ not-true (eqb s p && eqb j i) w)
+
+  cell-beside : Beside (filter (otherCell s j) L) s (change j e)
+  cell-beside p (add r) m g = inl refl
+  cell-beside p (strike k) m g = absurd (no-strike c T L a G s b n u (otherCell s j) (cell-gone s j) p k m g)
+  cell-beside p (change i f) m g = go (ltb i j) refl
+    where
+      go : (t : Bool) → ltb i j ≡ t → (ltb i j ≡ true) ⊎ (ltb j i ≡ true)
+      go true h = inl h
+      go false h = inr (lt-ltb j i (omega (tests, other-columns p i f m g)))
+
+  changeBase-good : Good c T (changeBase s j e L)
+  unfolding changeBase
+  changeBase-good =
+      good-enter c T (filter (otherCell s j) L) s (change j e) (thin-good c T L a G s b n u (otherCell s j) (cell-gone s j))
+      (and-of (ltb s (length T)) (leb 1 j && ltb j c) (lt-ltb s (length T) (omega (arith, at-length n)))
+      (and-of (leb 1 j) (ltb j c) (le-leb 1 j past) (lt-ltb j c within))) (b, n, past) cell-beside
+
+  cell-struck : (p : ℕ) → struck p (changeBase s j e L) ≡ struck p L
+  unfolding changeBase
+  cell-struck =
+      struck-same L (changeBase s j e L) (strikes-kept c T L a G s b n u (otherCell s j) (cell-gone s j) (change j e))
+      (λ p k m. strikes-old c T L a G s b n u (otherCell s j) (cell-gone s j) (change j e) p k (λ g. omega (arith, ap kind g)) m)
+
+  -- each base row is changed as before, and then by key
+  cell-changed : (p : ℕ) (q : Row) → At q p 0 T → changed p (changeBase s j e L) q ≡ putKey (key b) j e (changed p L q)
+  unfolding changeBase
+  cell-changed p q m = go (eqb p s) refl
+    where
+      kept-key : key (changed p L q) ≡ key q
+      kept-key = changed-key p L q (key-kept T L (G .fit))
+
+      row-s : changed s (changeBase s j e L) q ≡ put (changed s L q) j e
+      row-s =
+          changed-enter s j e (filter (otherCell s j) L) q (λ i f k ij. other-columns s i f k refl ij)
+          ∙ changed-filter s j e L q q refl
+
+      go : (t : Bool) → eqb p s ≡ t → changed p (changeBase s j e L) q ≡ putKey (key b) j e (changed p L q)
+      go true g =
+          let ps : p ≡ s = eqb-true p s g in
+          ap (λ (t : ℕ). changed t (changeBase s j e L) q) ps
+          ∙ (row-s ∙ (ap (λ (t : ℕ). put (changed t L q) j e) (sym ps)
+          ∙ sym (putKey-same (key b) j e (changed p L q) (kept-key ∙ ap key (at-same (at-cast ps m) n)))))
+      go false g =
+          let ne = eqb-false p s g in
+          elsewhere c T L a G s b n u (otherCell s j) (cell-gone s j) (change j e) (λ t x h. rw (ne-eqb t s h)) p q ne
+          ∙ sym (putKey-other (key b) j e (changed p L q) (λ h. ne (asc-same key T a m n (sym kept-key ∙ h))))
+
+  -- an added row has another key
+  cell-added : (p : ℕ) (r : Row) → Mem (at p (add r)) L → putKey (key b) j e r ≡ r
+  cell-added p r m = putKey-other (key b) j e r (λ h. add-unlike T L (G .fit) p s r b m n u (sym h))
+
+  changeBase-shown : (x : Row) → Mem x (read T (changeBase s j e L)) → Mem x (changeKey (key b) j e (read T L))
+  unfolding changeBase
+  changeBase-shown x m = go (shown 0 T (changeBase s j e L) x m)
+    where
+      go : Shown 0 T (changeBase s j e L) x → Mem x (changeKey (key b) j e (read T L))
+      go (inl w) =
+          let k = adds-old c T L a G s b n u (otherCell s j) (cell-gone s j) (change j e) (λ g. omega arith) (w .0) x (w .1) in
+          mem-cast (sym (cell-added (w .0) x k)) (mem-map (putKey (key b) j e) (read T L) x (shows T L (G .fit) x (inl (w .0, k))))
+      go (inr w) =
+          let r = changed (w .0) L (w .1) in
+          mem-cast (w .4 ∙ cell-changed (w .0) (w .1) (w .2))
+          (mem-map (putKey (key b) j e) (read T L) r (shows T L (G .fit) r (inr (w .0, w .1, w .2, sym (cell-struck (w .0)) ∙ w .3, refl))))
+
+  shown-changeBase : (x : Row) → Mem x (changeKey (key b) j e (read T L)) → Mem x (read T (changeBase s j e L))
+  unfolding changeBase
+  shown-changeBase x m =
+      let y = map-mem (putKey (key b) j e) (read T L) x m in
+      shows T (changeBase s j e L) (changeBase-good .fit) x (go (y .0) (y .2) (shown 0 T L (y .0) (y .1)))
+    where
+      go : (y : Row) → x ≡ putKey (key b) j e y → Shown 0 T L y → Shown 0 T (changeBase s j e L) x
+      go y g (inl w) =
+          inl (
+            w .0,
+            rw (g ∙ cell-added (w .0) y (w .1))
+                (adds-kept c T L a G s b n u (otherCell s j) (cell-gone s j) (change j e) (w .0) y (w .1)),
+          )
+      go y g (inr w) =
+          inr (w .0, w .1, w .2, cell-struck (w .0) ∙ w .3, g ∙ (ap (putKey (key b) j e) (w .4) ∙ sym (cell-changed (w .0) (w .1) (w .2))))
+
+  changeBase-reads : read T (changeBase s j e L) ≡ changeKey (key b) j e (read T L)
+  changeBase-reads =
+      ext key (read T (changeBase s j e L)) (changeKey (key b) j e (read T L))
+      (read-ascends T (changeBase s j e L) a (changeBase-good .fit)) (change-asc (key b) j e (read T L) past (read-ascends T L a (G .fit)))
+      changeBase-shown shown-changeBase
+
+-- By key is by row number: in an ascending table where q is row i.
+module _ (M : Table) (a : AscFrom key 0 M) (i : ℕ) (q : Row) (n : At q i 0 M) (j : ℕ) (e : CellEdit) (past : 1 ≤ j) where
+  change-is-set : changeKey (key q) j e M ≡ set M i (put q j e)
+  change-is-set = map-set key (λ r. put r j e) 0 i M q a n
+
+  -- struck and added again
+  change-is-anew : addKey (put q j e) (strikeKey (key q) M) ≡ changeKey (key q) j e M
+  change-is-anew =
+      ap (addKey (put q j e)) (filter-without key 0 i M q a n)
+      ∙ (insert-without rowBefore i M q (put q j e) (asc-pairs key 0 M a) n
+      (λ x m h. lt-ltb (key x) (key (put q j e)) (omega (tests, put-key q j e past)))
+      (λ x m h. le-ltb (key x) (key (put q j e)) (omega (tests, put-key q j e past)))
+      ∙ sym change-is-set)
+
+-- an add's place in the order is its key's
+deed-key : (d : Deed) (q r : Row) → key q ≡ key r → deedBefore d (add q) ≡ deedBefore d (add r)
+deed-key (add x) q r h = ap (ltb (key x)) h
+deed-key (strike k) q r h = refl
+deed-key (change i f) q r h = refl
+
+before-key : (x : Edit) (p : ℕ) (q r : Row) → key q ≡ key r → before x (at p (add q)) ≡ before x (at p (add r))
+before-key (at s d) p q r h = ap (λ (t : Bool). ltb s p || (eqb s p && t)) (deed-key d q r h)
+
+change-set : (i j : ℕ) (e : CellEdit) (L : Layer) (p : ℕ) (q : Row) → At (at p (add q)) i 0 L → changeAdded i j e L ≡ set L i (at p (add (put q j e)))
+change-set i j e [] p q n = refl
+change-set zero j e (d ∷ L) p q n = ap (λ (x : Edit). changeAddedRow j e x ∷ L) (sym (at-head n))
+change-set (suc i) j e (d ∷ L) p q n = ap (λ (x : Layer). d ∷ x) (change-set i j e L p q (at-tail n))
+
+-- The added entry number i, which adds q, has its column j changed: as if it had disappeared and the changed row were added.
+module _ (c : ℕ) (T : Table) (L : Layer) (a : AscFrom key 0 T) (G : Good c T L) (i p : ℕ) (q : Row) (n : At (at p (add q)) i 0 L)
+    (j : ℕ) (e : CellEdit) (past : 1 ≤ j) where
+  same-key : key (put q j e) ≡ key q
+  same-key = put-key q j e past
+
+  anew : changeAdded i j e L ≡ addRow (keys T) (put q j e) (without i L)
+  unfolding addRow
+  anew =
+      change-set i j e L p q n
+      ∙ (sym (insert-without before i L (at p (add q)) (at p (add (put q j e))) (G .fit .sorted) n up down)
+      ∙ ap (λ (s : ℕ). enter (at s (add (put q j e))) (without i L)) here-again)
+    where
+      up : (x : Edit) → Mem x L → before x (at p (add q)) ≡ true → before x (at p (add (put q j e))) ≡ true
+      up x m h = before-key x p (put q j e) q same-key ∙ h
+
+      down : (x : Edit) → Mem x L → before (at p (add q)) x ≡ true → before x (at p (add (put q j e))) ≡ false
+      down x m h =
+          not-passed (before x (at p (add (put q j e))))
+          (λ g. before-asym (at p (add q)) x h (before-key x p q (put q j e) (sym same-key) ∙ g))
+
+      here-again : p ≡ keysBelow (key (put q j e)) (keys T)
+      here-again =
+          omega (
+            arith,
+            G .fit .sits p q (at-mem n),
+            below-keys (key (put q j e)) T,
+            ap (λ (k : ℕ). count (below key k) T) same-key,
+          )
+
+  -- its key is free once the entry is lost
+  lost-free : (x : Row) → Mem x (read T (without i L)) → key x ≡ key (put q j e) → ⊥
+  lost-free x m h = (strike-mem (key q) (read T L) x (lost-shown c T L a G i p q n x m)) .1 (h ∙ same-key)
+
+  long : length (put q j e) ≡ c
+  long = put-length q j e ∙ eqb-true (length q) c (and-r (leb p (length T)) (eqb (length q) c) (G .each (at p (add q)) (at-mem n)))
+
+  changeAdded-good : Good c T (changeAdded i j e L)
+  changeAdded-good = rw (anew) (add-good c T (without i L) a (lost-good c T L a G i p q n) (put q j e) long lost-free)
+
+  changeAdded-reads : (k : ℕ) → At q k 0 (read T L) → read T (changeAdded i j e L) ≡ changeKey (key q) j e (read T L)
+  changeAdded-reads k m =
+      ap (read T) anew
+      ∙ (add-reads c T (without i L) a (lost-good c T L a G i p q n) (put q j e) long lost-free
+      ∙ (ap (addKey (put q j e)) (lost-reads c T L a G i p q n)
+      ∙ change-is-anew (read T L) (read-ascends T L a (G .fit)) k q m j e past))
+
+-- Change column j of row number i, where q is shown.
+module _ (c : ℕ) (T : Table) (L : Layer) (a : AscFrom key 0 T) (G : Good c T L) (i : ℕ) (q : Row) (n : At q i 0 (read T L))
+    (j : ℕ) (e : CellEdit) (past : 1 ≤ j) (within : j < c) where
+  change-origin : (o : Origin) → RowOrigin T L q o → Reads c T (changeOrigin j e L o) (changeKey (key q) j e (read T L))
+  change-origin (base s) O =
+      let w = base-at T L q s O in
+      let k : key q ≡ key (w .0) = ap key (w .3) ∙ changed-key s L (w .0) (key-kept T L (G .fit)) in
+      record {
+        good = changeBase-good c T L a G s (w .0) (w .1) (w .2) j e past within;
+        reads = rw (k) (changeBase-reads c T L a G s (w .0) (w .1) (w .2) j e past within);
+      }
+  change-origin (added k) O =
+      let w = added-at T L q k O in
+      record {
+        good = changeAdded-good c T L a G k (w .0) q (w .1) j e past;
+        reads = changeAdded-reads c T L a G k (w .0) q (w .1) j e past i n;
+      }
+
+  changed-row : Reads c T (changeRowNo (keys T) i j e L) (changeKey (key q) j e (read T L))
+  unfolding changeRowNo
+  changed-row = rw (keys-length T) (change-origin (back (length T) L i) (back-row T L i q n))
+
+  pub change-good : Good c T (changeRowNo (keys T) i j e L)
+  change-good = changed-row .good
+
+  pub change-reads : read T (changeRowNo (keys T) i j e L) ≡ changeKey (key q) j e (read T L)
+  change-reads = changed-row .reads
+
+  -- the rows with row number i changed
+  pub change-row : read T (changeRowNo (keys T) i j e L) ≡ set (read T L) i (put q j e)
+  change-row = change-reads ∙ change-is-set (read T L) (read-ascends T L a (G .fit)) i q n j e past
+
+  pub change-rows : rowsAfter (length T) (changeRowNo (keys T) i j e L) ≡ rowsAfter (length T) L
+  change-rows =
+      omega (
+        arith,
+        read-length T (changeRowNo (keys T) i j e L) (change-good .fit),
+        read-length T L (G .fit),
+        ap length change-row,
+        length-set (read T L) i (put q j e),
+      )
+
+-- By key: the row number of a shown key is that of its row.
+pub row-of-key : (T : Table) (L : Layer) → AscFrom key 0 T → Fit T L → (i : ℕ) (q : Row) → At q i 0 (read T L) → rowOfKey (keys T) L (key q) ≡ i
+row-of-key T L a F i q n =
+    omega (
+      arith,
+      ap (keysBelow (key q)) (keys-read T L (key-kept T L F)),
+      below-keys (key q) (read T L),
+      at-count key 0 0 (read T L) (read-ascends T L a F) q i n,
+    )
