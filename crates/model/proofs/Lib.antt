@@ -13,3 +13,7 @@ pub mod Column
 pub mod Origin
 pub mod Edited
 pub mod Examples
+pub mod Position
+pub mod Meaning
+pub mod Canonical
+pub mod Operator

@@ -1,0 +1,6 @@
+pub mod Laws
+pub mod Scanning
+pub mod Neighbours
+pub mod ByKind
+pub mod Place
+pub mod Formed

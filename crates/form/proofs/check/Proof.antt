@@ -1,0 +1,67 @@
+-- `form::check` meets its contract: the pass finds the document's place, and the row total is what it counted.
+-- Assumes nothing.
+use borrow.Author.Needs.{needs}
+use borrow.Author.Tests.{not-true, not-false}
+use native.Mathlib.Omega.{arith}
+use mathlib.Core.Path.{_≡_, sym, _∙_}
+use mathlib.Core.Bool.{true}
+use lib.ListN.{length}
+use Rattle.model.specs.Form.{argsOk}
+use Rattle.model.proofs.Raw.{args-held}
+use Rattle.form.proofs.Formed.{Counted, args-refused, place-refused, counted}
+use Rattle.form.proofs.check.Statement.{statement}
+use Rattle.form.proofs.check.Tie as tie
+
+args-ok-requires : tie.Need-args-ok-requires
+args-ok-requires c κs = search needs
+
+returns : tie.Need-returns
+returns c = args-refused _ _ _ _ (sym (c .before .args-ok .ensures) ∙ not-true _ (c .if1 .taken))
+
+passed : (c : tie.Else1) →
+    let a = c .before .before .before .args in
+    argsOk (a .c) (a .n) (a .m) (length (a .layer .now)) ≡ true
+passed c = sym (c .before .args-ok .ensures) ∙ not-false _ (c .if1 .left)
+
+scan-layer-requires : tie.Need-scan-layer-requires
+scan-layer-requires c κs =
+    let a = c .before .before .before .args in
+    args-held (a .c) (a .n) (a .m) (a .layer .now) (passed c) .0
+
+returns-2 : tie.Need-returns-2
+returns-2 c = place-refused _ _ _ _ (passed (c .before .before)) _ (c .before .scan-layer .ensures .0) (c .if2 .taken)
+
+known : (c : tie.Else2) →
+    let a = c .before .before .before .before .before .args in
+    let s = c .before .scan-layer .result in
+    Counted (a .c) (a .n) (a .m) (a .layer .now) (s .adds) (s .strikes)
+known c = counted _ _ _ _ (passed (c .before .before)) _ _ _ (c .if2 .left) (c .before .scan-layer .ensures)
+
+add-shown : tie.Need-add-shown
+add-shown c = let k = known (c .before) in omega (arith, k .few-adds, k .base)
+
+add-most : tie.Need-add-most
+add-most c = let k = known (c .before .before) in omega (arith, k .few-strikes, k .base)
+
+returns-3 : tie.Need-returns-3
+returns-3 c = known (c .before .before .before) .total (c .if3 .taken)
+
+sub-t10 : tie.Need-sub-t10
+sub-t10 c = let k = known (c .before .before .before .before) in omega (arith, k .few-strikes)
+
+returns-4 : tie.Need-returns-4
+returns-4 c = known (c .before .before .before .before) .accept (c .before .if3 .left)
+
+pub check-spec : {M : Type 1} → statement M
+check-spec =
+    tie.close
+    (tie.spec
+    args-ok-requires
+    returns
+    scan-layer-requires
+    returns-2
+    add-shown
+    add-most
+    returns-3
+    sub-t10
+    returns-4)

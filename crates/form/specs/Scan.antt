@@ -1,0 +1,37 @@
+-- The form check as one pass: each entry is looked at alone and after the one before it, by position and kind.
+use mathlib.Core.Bool.{Bool, not, cond, _&&_, _||_}
+use mathlib.Core.List.{List, [], _∷_}
+use Prim.Native.Nat.{ℕ}
+use lib.Dec.{ltb, eqb}
+use Rattle.model.specs.declared.Entry.{Entry}
+use Rattle.model.specs.Raw.{ADD, STRIKE, editOf}
+use Rattle.model.specs.Form.{zeros, sound}
+
+-- an entry of kind k may stand after one of kind q at the same position
+abbrev pub afterKind : ℕ → ℕ → Bool
+afterKind q k = eqb q ADD || (not (eqb q STRIKE) && (not (eqb k ADD) && (not (eqb k STRIKE) && ltb q k)))
+
+-- an entry at s of kind k may stand after one at p of kind q
+abbrev pub followsKind : ℕ → ℕ → ℕ → ℕ → Bool
+followsKind p q s k = ltb p s || (eqb p s && afterKind q k)
+
+-- the entry breaks no rule alone
+unfoldable pub aloneGood : ℕ → ℕ → Entry → Bool
+aloneGood c n e = zeros e && sound c n (editOf e)
+
+-- the entry breaks no rule, alone and after one at p of kind q
+abbrev pub goodAfter : ℕ → ℕ → ℕ → ℕ → Entry → Bool
+goodAfter c n p q e = aloneGood c n e && followsKind p q (e .pos) (e .kind)
+
+-- the entries before the first that breaks a rule, where the one before the first is at p of kind q
+unfoldable pub goodFrom : ℕ → ℕ → ℕ → ℕ → List Entry → List Entry
+goodFrom c n p q [] = []
+goodFrom c n p q (e ∷ es) = cond (goodAfter c n p q e) (e ∷ goodFrom c n (e .pos) (e .kind) es) []
+
+-- before the first entry stands, as it were, an add at position 0, which anything may follow
+abbrev pub good : ℕ → ℕ → List Entry → List Entry
+good c n es = goodFrom c n 0 ADD es
+
+-- the entry is of kind k
+abbrev pub ofKind : ℕ → Entry → Bool
+ofKind k e = eqb (e .kind) k

@@ -1,0 +1,77 @@
+// The form check and the fit check of a layer, each with the place of the least entry at fault.
+mod scan;
+
+use model::Answer;
+use model::MOST_COLUMNS;
+use model::MOST_ENTRIES;
+use model::MOST_ROWS;
+use model::Refusal;
+ghost use mathlib.Core.Path.{_≡_};
+ghost use Prim.Native.Nat.{_+_, _*_, _≤_, _<_};
+ghost use lib.ListN.{length, getD};
+ghost use Rattle.model.specs.Raw.{entryAt};
+ghost use Rattle.model.specs.Form.{argsOk};
+ghost use Rattle.model.specs.Calls.{formAnswer};
+
+// The arguments pass refusal 1: c columns, n rows, m entries in a slice of len numbers.
+pub fn args_ok(c: usize, n: usize, m: usize, len: usize) -> bool
+    ensures { λ r. ⌜ r ≡ argsOk c n m len ⌝ }
+{
+    if MOST_COLUMNS < c {
+        return false;
+    }
+    if MOST_ENTRIES < m {
+        return false;
+    }
+    (1 <= c) & ((n <= MOST_ROWS) & (m * (c + 2) <= len))
+}
+
+// The position of the entry that stands from `at` on.
+pub fn pos_at(c: usize, at: usize, layer: &[u64]) -> u64
+    requires { ⌜ at + (c + 2) ≤ length (now layer) ⌝ }
+    ensures { λ r. ⌜ r ≡ entryAt c at (now (layer .entry)) .pos ⌝ }
+{
+    layer[at]
+}
+
+// Its kind.
+pub fn kind_at(c: usize, at: usize, layer: &[u64]) -> u64
+    requires { ⌜ at + (c + 2) ≤ length (now layer) ⌝ }
+    ensures { λ r. ⌜ r ≡ entryAt c at (now (layer .entry)) .kind ⌝ }
+{
+    layer[at + 1]
+}
+
+// Its value j.
+pub fn value_at(c: usize, at: usize, j: usize, layer: &[u64]) -> u64
+    requires { ⌜ (at + (c + 2) ≤ length (now layer)) × (j < c) ⌝ }
+    ensures { λ r. ⌜ r ≡ getD (entryAt c at (now (layer .entry)) .vals) j 0 ⌝ }
+{
+    layer[at + 2 + j]
+}
+
+// The check behind every call: arguments and form. The result is the number of rows after the layer.
+pub fn check(c: usize, n: usize, m: usize, layer: &[u64]) -> Answer
+    ensures { λ r. ⌜ r ≡ formAnswer c n m (now (layer .entry)) ⌝ }
+{
+    if !args_ok(c, n, m, layer.len()) {
+        return Answer::Refused(Refusal {
+            number: 1,
+            place: 0,
+        });
+    }
+    let s = scan::scan_layer(c, n, m, layer);
+    let place = s.place;
+    if place < m {
+        return Answer::Refused(Refusal { number: 2, place });
+    }
+    let shown = n + s.adds;
+    let most = MOST_ROWS + s.strikes;
+    if most < shown {
+        return Answer::Refused(Refusal {
+            number: 2,
+            place: m,
+        });
+    }
+    Answer::Done(shown - s.strikes)
+}

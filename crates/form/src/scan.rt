@@ -1,0 +1,101 @@
+// One pass over the entries of a layer: the first that breaks a rule of form, and the adds and strikes before it.
+use model::Entry;
+ghost use mathlib.Core.Path.{_≡_};
+ghost use mathlib.Core.Bool.{_&&_, _||_};
+ghost use mathlib.Core.List.{List};
+ghost use Prim.Native.Nat.{ℕ, _+_, _≤_};
+ghost use lib.ListN.{length, drop};
+ghost use lib.Dec.{eqb};
+ghost use Rattle.order.specs.Lists.{one, all, count};
+ghost use Rattle.model.specs.Raw.{ADD, STRIKE, entryAt, entriesOf, Held};
+ghost use Rattle.form.specs.Scan.{followsKind, aloneGood, good, ofKind};
+
+// How many entries stand before the first that breaks a rule, and how many of them are adds and strikes.
+pub struct Scan {
+    pub place: usize,
+    pub adds: usize,
+    pub strikes: usize,
+}
+
+// A test as a number.
+fn one_if(b: bool) -> usize
+    ensures { λ r. ⌜ (r ≡ one b) × (r ≤ 1) ⌝ }
+{
+    if b { 1 } else { 0 }
+}
+
+// An entry at s of kind k may stand after one at p of kind q.
+fn follows(p: u64, q: u64, s: u64, k: u64) -> bool
+    ensures { λ r. ⌜ r ≡ followsKind p q s k ⌝ }
+{
+    let rising = (k != Entry::ADD) & ((k != Entry::STRIKE) & (q < k));
+    (p < s) | ((p == s) & ((q == Entry::ADD) | ((q != Entry::STRIKE) & rising)))
+}
+
+// The values after the first are all zero.
+fn tail_zero(vals: &[u64]) -> bool
+    ensures { λ r. ⌜ r ≡ all (λ v. eqb v 0) (drop 1 (now (vals .entry))) ⌝ }
+{
+    let mut j: usize = 1;
+    while j < vals.len() {
+        if vals[j] != 0 {
+            return false;
+        }
+        j += 1;
+    }
+    true
+}
+
+// The entry from `at` breaks no rule alone.
+fn alone_good(c: usize, n: usize, at: usize, layer: &[u64]) -> bool
+    requires { ⌜ at + (c + 2) ≤ length (now layer) ⌝ }
+    ensures { λ r. ⌜ r ≡ aloneGood c n (entryAt c at (now (layer .entry))) ⌝ }
+{
+    let s = layer[at];
+    let k = layer[at + 1];
+    let rows = n as u64;
+    if k == Entry::ADD {
+        return s <= rows;
+    }
+    let a = at + 2;
+    let e = a + c;
+    let column = (1 <= k) & (k < c as u64);
+    tail_zero(&layer[a..e]) & ((s < rows) & ((k == Entry::STRIKE) | column))
+}
+
+// The pass over the m entries.
+pub fn scan_layer(c: usize, n: usize, m: usize, layer: &[u64]) -> Scan
+    requires { ⌜ Held c m (now layer) ⌝ }
+    ensures { λ r. ⌜ (r .place ≡ length (good c n (entriesOf c m (now (layer .entry)))))
+        × (r .adds ≡ count (ofKind ADD) (good c n (entriesOf c m (now (layer .entry)))))
+        × (r .strikes ≡ count (ofKind STRIKE) (good c n (entriesOf c m (now (layer .entry))))) ⌝ }
+{
+    let mut i: usize = 0;
+    let mut at: usize = 0;
+    let mut p: u64 = 0;
+    let mut q = Entry::ADD;
+    let mut adds: usize = 0;
+    let mut strikes: usize = 0;
+    while i < m {
+        let s = layer[at];
+        let k = layer[at + 1];
+        if !(alone_good(c, n, at, layer) & follows(p, q, s, k)) {
+            return Scan {
+                place: i,
+                adds,
+                strikes,
+            };
+        }
+        adds += one_if(k == Entry::ADD);
+        strikes += one_if(k == Entry::STRIKE);
+        p = s;
+        q = k;
+        at += c + 2;
+        i += 1;
+    }
+    Scan {
+        place: i,
+        adds,
+        strikes,
+    }
+}
