@@ -3,3 +3,4 @@ pub mod Rows
 pub mod Ready
 pub mod Writing
 pub mod Going
+pub mod Answers
