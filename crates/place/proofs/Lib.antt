@@ -1,2 +1,5 @@
 pub mod Walk
 pub mod Signed
+pub mod ByKind
+pub mod Counting
+pub mod Walking
