@@ -3,3 +3,4 @@ pub mod Signed
 pub mod ByKind
 pub mod Counting
 pub mod Walking
+pub mod Answers

@@ -1,6 +1,9 @@
 // Shifts, row numbers, and back from a row number to what stands there.
+use model::Answer;
 use model::Back;
 use model::Entry;
+use model::Refusal;
+use model::Shifted;
 ghost use mathlib.Core.Path.{_≡_};
 ghost use mathlib.Core.Bool.{true};
 ghost use Prim.Native.Nat.{_+_, _*_, _≤_, _<_};
@@ -10,8 +13,8 @@ ghost use Rattle.order.specs.Lists.{one, count};
 ghost use Rattle.model.specs.Layer.{rowsAfter};
 ghost use Rattle.model.specs.Raw.{Held, layerOf};
 ghost use Rattle.model.specs.Form.{inOrder};
-ghost use Rattle.model.specs.Position.{addUpTo, strikeBefore, back};
-ghost use Rattle.model.specs.Calls.{originAnswer};
+ghost use Rattle.model.specs.Position.{addUpTo, strikeBefore, shift, rowOf, back};
+ghost use Rattle.model.specs.Calls.{originAnswer, shiftAnswer, rowAnswer, backAnswer};
 
 // By how much a passes b, below zero where it does not.
 fn less(a: usize, b: usize) -> i64
@@ -91,4 +94,74 @@ pub fn origin_of(c: usize, n: usize, m: usize, layer: &[u64], r: usize) -> Back
         }
     }
     Back::Base(t)
+}
+
+// The shift at base position s.
+fn shift_at(c: usize, m: usize, layer: &[u64], s: usize) -> i64
+    requires { ⌜ Held c m (now layer) ⌝ }
+    ensures { λ r. ⌜ r ≡ shift (layerOf c m (now (layer .entry))) s ⌝ }
+{
+    let w = counted(c, m, layer, s);
+    less(w.adds, w.strikes)
+}
+
+// The row number of base position s: the position and its shift, which is never a negative row.
+fn row_at(c: usize, n: usize, m: usize, layer: &[u64], s: usize) -> usize
+    requires { ⌜ Held c m (now layer) × (s ≤ 4096) × (inOrder c n (layerOf c m (now layer)) ≡ true) ⌝ }
+    ensures { λ r. ⌜ r ≡ rowOf (layerOf c m (now (layer .entry))) s ⌝ }
+{
+    shifted(s, shift_at(c, m, layer, s))
+}
+
+// The shift at base position s, 0 to n: adds up to and including s, less strikes before s.
+pub fn shift(c: usize, n: usize, m: usize, layer: &[u64], s: usize) -> Shifted
+    ensures { λ r. ⌜ r ≡ shiftAnswer c n m (now (layer .entry)) s ⌝ }
+{
+    if n < s {
+        return Shifted::Refused(Refusal {
+            number: 1,
+            place: 0,
+        });
+    }
+    let f = form::check(c, n, m, layer);
+    match f {
+        Answer::Done(_) => Shifted::By(shift_at(c, m, layer, s)),
+        Answer::Refused(x) => Shifted::Refused(x),
+    }
+}
+
+// The row number of base position s, 0 to n: of a struck row that of the next shown row, or the row count if none follows.
+pub fn row(c: usize, n: usize, m: usize, layer: &[u64], s: usize) -> Answer
+    ensures { λ r. ⌜ r ≡ rowAnswer c n m (now (layer .entry)) s ⌝ }
+{
+    if n < s {
+        return Answer::Refused(Refusal {
+            number: 1,
+            place: 0,
+        });
+    }
+    let f = form::check(c, n, m, layer);
+    match f {
+        Answer::Done(_) => Answer::Done(row_at(c, n, m, layer, s)),
+        Answer::Refused(x) => Answer::Refused(x),
+    }
+}
+
+// Back from row number r: the base row or the added entry that stands there.
+pub fn back(c: usize, n: usize, m: usize, layer: &[u64], r: usize) -> Back
+    ensures { λ o. ⌜ o ≡ backAnswer c n m (now (layer .entry)) r ⌝ }
+{
+    let f = form::check(c, n, m, layer);
+    match f {
+        Answer::Done(rows) => {
+            if rows <= r {
+                return Back::Refused(Refusal {
+                    number: 5,
+                    place: 0,
+                });
+            }
+            origin_of(c, n, m, layer, r)
+        }
+        Answer::Refused(x) => Back::Refused(x),
+    }
 }
