@@ -17,3 +17,4 @@ pub mod Position
 pub mod Meaning
 pub mod Canonical
 pub mod Operator
+pub mod Combine

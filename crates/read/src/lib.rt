@@ -27,10 +27,17 @@ fn show_rows_and(base: &[u64], s: usize, p: usize, v: u64, out: &mut [u64], o: u
 }
 
 // Writes column j, as the layer shows it, to the front of the buffer, and returns how many rows there are.
-pub fn read_part(c: usize, m: usize, layer: &[u64], base: &[u64], j: usize, out: &mut [u64]) -> usize
+pub fn read_part(
+    c: usize,
+    m: usize,
+    layer: &[u64],
+    base: &[u64],
+    j: usize,
+    out: &mut [u64],
+) -> usize
     requires { ⌜ Readable c m (now layer) (now base) j (length (now out)) ⌝ }
     ensures { λ r. ⌜ (r ≡ length (shownColumn c m (now (layer .entry)) (now (base .entry)) j))
-      × (now (out .exit) ≡ shownColumn c m (now (layer .entry)) (now (base .entry)) j
+        × (now (out .exit) ≡ shownColumn c m (now (layer .entry)) (now (base .entry)) j
         ++ drop (length (shownColumn c m (now (layer .entry)) (now (base .entry)) j)) (now (out .entry))) ⌝ }
 {
     let mut i: usize = 0;

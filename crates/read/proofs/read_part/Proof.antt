@@ -7,7 +7,21 @@ use Rattle.model.specs.Calls.{shownColumn}
 use Rattle.read.specs.Runs.{Wrote, Readable}
 use Rattle.read.proofs.Writing.{wrote-none}
 use Rattle.read.proofs.Going.{
-  Going, Met, Shows, near, passed, fitting, on-add, on-strike, on-change, on-other, set-out, last-row, last-room, ended}
+  Going,
+  Met,
+  Shows,
+  near,
+  passed,
+  fitting,
+  on-add,
+  on-strike,
+  on-change,
+  on-other,
+  set-out,
+  last-row,
+  last-room,
+  ended,
+}
 use borrow.Author.Needs.{needs}
 use Rattle.read.proofs.read_part.Statement.{statement}
 use Rattle.read.proofs.read_part.Tie as tie
@@ -28,9 +42,9 @@ abbrev μ-loop : tie.MeasureT-loop
 -- what the calls have read is the entry
 met : (c : tie.After-value-at2 Inv-loop μ-loop)
     → let l = c .before .before .before .before .before in
-      let a = l .before .before .before .before .args in
-      Met (a .c) (a .j) (a .layer .now) (l .loop .at) (c .before .before .before .pos-at .result) (c .before .before .kind-at .result)
-        (c .before .value-at .result) (c .value-at2 .result)
+    let a = l .before .before .before .before .args in
+    Met (a .c) (a .j) (a .layer .now) (l .loop .at) (c .before .before .before .pos-at .result) (c .before .before .kind-at .result)
+    (c .before .value-at .result) (c .value-at2 .result)
 met c =
     record {
       pos-is = c .before .before .before .pos-at .ensures;
@@ -49,10 +63,10 @@ module _ (c : tie.After-value-at2 Inv-loop μ-loop) where
 -- what stands in the buffer at the end
 finished : (c : tie.After-slice-known5 Inv-loop μ-loop)
     → let a = c .before .before .before .before .before .before .before .before .before .args in
-      let t = shownColumn (a .c) (a .m) (a .layer .now) (a .base .now) (a .j) in
-      let f = c .before .before .show-rows2 in
-      (length (f .last .1 .1 .1 .0) ≡ length (a .out .now)) × (f .result ≡ length t)
-        × (f .last .1 .1 .1 .0 ≡ t ++ drop (length t) (a .out .now))
+    let t = shownColumn (a .c) (a .m) (a .layer .now) (a .base .now) (a .j) in
+    let f = c .before .before .show-rows2 in
+    (length (f .last .1 .1 .1 .0) ≡ length (a .out .now)) × (f .result ≡ length t)
+    × (f .last .1 .1 .1 .0 ≡ t ++ drop (length t) (a .out .now))
 finished c =
     let l = c .before .before .before .before .before in
     ended (l .loop .inv) (c .before .before .before .before .loop-test .left) (l .before .before .before .before .pre) (c .before .before .show-rows2 .ensures)
