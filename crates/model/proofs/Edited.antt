@@ -176,11 +176,11 @@ good-less c T L M G sub h o =
     good-by c T M (λ e m. G .each e (sub e m)) (λ e m. apt-in T L M h e (apt-of T L (G .fit) e (sub e m))) o
 
 -- a good layer with an edit entered that stands before or after each other one
-abbrev Beside : Layer → ℕ → Deed → Type 0
-Beside M s d = (p : ℕ) (b : Deed) → Mem (at p b) M → p ≡ s → (deedBefore b d ≡ true) ⊎ (deedBefore d b ≡ true)
+abbrev Placed : Layer → ℕ → Deed → Type 0
+Placed M s d = (p : ℕ) (b : Deed) → Mem (at p b) M → p ≡ s → (deedBefore b d ≡ true) ⊎ (deedBefore d b ≡ true)
 
-beside : (M : Layer) (s : ℕ) (d : Deed) → Beside M s d → (x : Edit) → Mem x M → before x (at s d) ≡ false → before (at s d) x ≡ true
-beside M s d h (at p b) m f = go (ltb p s) refl (eqb p s) refl
+placed : (M : Layer) (s : ℕ) (d : Deed) → Placed M s d → (x : Edit) → Mem x M → before x (at s d) ≡ false → before (at s d) x ≡ true
+placed M s d h (at p b) m f = go (ltb p s) refl (eqb p s) refl
   where
     no : before (at p b) (at s d) ≡ true → ⊥
     no g = true≢false (sym g ∙ f)
@@ -193,7 +193,7 @@ beside M s d h (at p b) m f = go (ltb p s) refl (eqb p s) refl
     go false e false g = before-lt (at s d) (at p b) (omega tests)
 
 good-enter : (c : ℕ) (T : Table) (M : Layer) (s : ℕ) (d : Deed) → Good c T M → sound c (length T) (at s d) ≡ true → Apt T M (at s d)
-    → Beside M s d → Good c T (enter (at s d) M)
+    → Placed M s d → Good c T (enter (at s d) M)
 good-enter c T M s d G e w h = good-by c T (enter (at s d) M) each apt order
   where
     kept : StrikesIn M (enter (at s d) M)
@@ -208,7 +208,7 @@ good-enter c T M s d G e w h = good-by c T (enter (at s d) M) each apt order
         (insert-mem before (at s d) M x m)
 
     order : AllPairs before (enter (at s d) M)
-    order = pairs-insert before (at s d) M before-trans (beside M s d h) (G .fit .sorted)
+    order = pairs-insert before (at s d) M before-trans (placed M s d h) (G .fit .sorted)
 
 -- a layer that keeps form and fits, and what is read through it
 pub record Reads (c : ℕ) (T : Table) (N : Layer) (M : Table) : Type 0 where
@@ -247,14 +247,14 @@ module _ (c : ℕ) (T : Table) (L : Layer) (a : AscFrom key 0 T) (G : Good c T L
       go true u = u
       go false u = absurd (free (changed i L q) (shows-row 0 T L i q n u) (changed-key i L q (key-kept T L (G .fit)) ∙ e))
 
-  add-beside : Beside L (keysBelow (key r) (keys T)) (add r)
-  add-beside p (add q) m e = go (ltb (key q) (key r)) refl
+  add-placed : Placed L (keysBelow (key r) (keys T)) (add r)
+  add-placed p (add q) m e = go (ltb (key q) (key r)) refl
     where
       go : (t : Bool) → ltb (key q) (key r) ≡ t → (ltb (key q) (key r) ≡ true) ⊎ (ltb (key r) (key q) ≡ true)
       go true f = inl f
       go false f = inr (lt-ltb (key r) (key q) (omega (tests, free q (shows T L (G .fit) q (inl (p, m))))))
-  add-beside p (strike k) m e = inr refl
-  add-beside p (change j f) m e = inr refl
+  add-placed p (strike k) m e = inr refl
+  add-placed p (change j f) m e = inr refl
 
   pub add-good : Good c T (addRow (keys T) r L)
   unfolding addRow
@@ -262,7 +262,7 @@ module _ (c : ℕ) (T : Table) (L : Layer) (a : AscFrom key 0 T) (G : Good c T L
       good-enter c T L (keysBelow (key r) (keys T)) (add r) G
       (and-of (leb (keysBelow (key r) (keys T)) (length T)) (eqb (length r) c)
       (le-leb (keysBelow (key r) (keys T)) (length T) (omega (arith, here-below, count-le (below key (key r)) T))) (eq-eqb (length r) c len))
-      (here-below, add-fresh) add-beside
+      (here-below, add-fresh) add-placed
 
   entry : Edit
   entry = at (keysBelow (key r) (keys T)) (add r)
@@ -430,17 +430,17 @@ gone s e h = not-false (changesRow s e) h
 
 -- Base row s is struck.
 module _ (c : ℕ) (T : Table) (L : Layer) (a : AscFrom key 0 T) (G : Good c T L) (s : ℕ) (b : Row) (n : At b s 0 T) (u : struck s L ≡ false) where
-  bare-beside : Beside (filter (unchanged s) L) s (strike (getD (keys T) s 0))
-  bare-beside p (add r) m e = inl refl
-  bare-beside p (strike k) m e = absurd (no-strike c T L a G s b n u (unchanged s) (gone s) p k m e)
-  bare-beside p (change j f) m e =
+  bare-placed : Placed (filter (unchanged s) L) s (strike (getD (keys T) s 0))
+  bare-placed p (add r) m e = inl refl
+  bare-placed p (strike k) m e = absurd (no-strike c T L a G s b n u (unchanged s) (gone s) p k m e)
+  bare-placed p (change j f) m e =
       absurd (eqb-false s p (not-true (eqb s p) ((filter-mem (unchanged s) L (at p (change j f)) m) .1)) (sym e))
 
   strikeBase-good : Good c T (strikeBase (keys T) s L)
   unfolding strikeBase
   strikeBase-good =
       good-enter c T (filter (unchanged s) L) s (strike (getD (keys T) s 0)) (thin-good c T L a G s b n u (unchanged s) (gone s))
-      (lt-ltb s (length T) (omega (arith, at-length n))) (b, n, sym (key-of n)) bare-beside
+      (lt-ltb s (length T) (omega (arith, at-length n))) (b, n, sym (key-of n)) bare-placed
 
   struck-here : struck s (strikeBase (keys T) s L) ≡ true
   unfolding strikeBase
@@ -630,10 +630,10 @@ module _ (c : ℕ) (T : Table) (L : Layer) (a : AscFrom key 0 T) (G : Good c T L
       let w = (filter-mem (otherCell s j) L (at p (change i f)) m) .1 in
       true≢false (sym (and-of (eqb s p) (eqb j i) (eq-eqb s p (sym ps)) (eq-eqb j i (sym ij))) ∙ not-true (eqb s p && eqb j i) w)
 
-  cell-beside : Beside (filter (otherCell s j) L) s (change j e)
-  cell-beside p (add r) m g = inl refl
-  cell-beside p (strike k) m g = absurd (no-strike c T L a G s b n u (otherCell s j) (cell-gone s j) p k m g)
-  cell-beside p (change i f) m g = go (ltb i j) refl
+  cell-placed : Placed (filter (otherCell s j) L) s (change j e)
+  cell-placed p (add r) m g = inl refl
+  cell-placed p (strike k) m g = absurd (no-strike c T L a G s b n u (otherCell s j) (cell-gone s j) p k m g)
+  cell-placed p (change i f) m g = go (ltb i j) refl
     where
       go : (t : Bool) → ltb i j ≡ t → (ltb i j ≡ true) ⊎ (ltb j i ≡ true)
       go true h = inl h
@@ -644,7 +644,7 @@ module _ (c : ℕ) (T : Table) (L : Layer) (a : AscFrom key 0 T) (G : Good c T L
   changeBase-good =
       good-enter c T (filter (otherCell s j) L) s (change j e) (thin-good c T L a G s b n u (otherCell s j) (cell-gone s j))
       (and-of (ltb s (length T)) (leb 1 j && ltb j c) (lt-ltb s (length T) (omega (arith, at-length n)))
-      (and-of (leb 1 j) (ltb j c) (le-leb 1 j past) (lt-ltb j c within))) (b, n, past) cell-beside
+      (and-of (leb 1 j) (ltb j c) (le-leb 1 j past) (lt-ltb j c within))) (b, n, past) cell-placed
 
   cell-struck : (p : ℕ) → struck p (changeBase s j e L) ≡ struck p L
   unfolding changeBase

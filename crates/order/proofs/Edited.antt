@@ -97,6 +97,12 @@ module _ {A B : Type 0} where
   at-map f zero (x ∷ M) b a = (x, top refl refl, at-head a)
   at-map f (suc i) (x ∷ M) b a = let w = at-map f i M b (at-tail a) in (w .0, at-next x (w .1), w .2)
 
+  -- what each step of a walk keeps, the walk keeps
+  pub turn-keeps : (P : B → Type 0) (f : A → B → B) (xs : List A) (b : B) → ((x : A) → Mem x xs → (c : B) → P c → P (f x c)) → P b
+      → P (inTurn f xs b)
+  turn-keeps P f [] b h p = p
+  turn-keeps P f (x ∷ xs) b h p = turn-keeps P f xs (f x b) (λ y m. h y (next m)) (h x (here refl) b p)
+
   -- a walk passes over an element that does nothing
   pub turn-insert : (f : A → B → B) (R : A → A → Bool) (e : A) (xs : List A) (b : B) → ((c : B) → f e c ≡ c)
       → inTurn f (insert R e xs) b ≡ inTurn f xs b
