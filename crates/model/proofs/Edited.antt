@@ -738,7 +738,7 @@ deed-key (change i f) q r h = refl
 before-key : (x : Edit) (p : ℕ) (q r : Row) → key q ≡ key r → before x (at p (add q)) ≡ before x (at p (add r))
 before-key (at s d) p q r h = ap (λ (t : Bool). ltb s p || (eqb s p && t)) (deed-key d q r h)
 
-change-set : (i j : ℕ) (e : CellEdit) (L : Layer) (p : ℕ) (q : Row) → At (at p (add q)) i 0 L → changeAdded i j e L ≡ set L i (at p (add (put q j e)))
+pub change-set : (i j : ℕ) (e : CellEdit) (L : Layer) (p : ℕ) (q : Row) → At (at p (add q)) i 0 L → changeAdded i j e L ≡ set L i (at p (add (put q j e)))
 change-set i j e [] p q n = refl
 change-set zero j e (d ∷ L) p q n = ap (λ (x : Edit). changeAddedRow j e x ∷ L) (sym (at-head n))
 change-set (suc i) j e (d ∷ L) p q n = ap (λ (x : Layer). d ∷ x) (change-set i j e L p q (at-tail n))

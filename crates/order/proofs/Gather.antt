@@ -17,6 +17,7 @@ use mathlib.Core.List.{
   List·Memᴰ·append-cases as append-cases,
 }
 use Prim.Native.Nat.{ℕ, zero, suc, _≤_}
+use lib.ListN.{set}
 use native.Mathlib.Omega.{arith}
 use Rattle.order.specs.Lists.{filter, insert, without, gather, inTurn}
 use Rattle.order.proofs.Members.{gather-mem}
@@ -108,6 +109,26 @@ module _ {A B : Type 0} (f : A → List B) where
   gather-same g [] h = refl
   gather-same g (x ∷ xs) h =
       ap (λ (t : List B). t ++ gather f xs) (h x (here refl)) ∙ ap (λ (t : List B). g x ++ t) (gather-same g xs (λ y m. h y (next m)))
+
+  -- a filtered list gives what its elements give, or nothing
+  pub gather-kept : (g : A → Bool) (xs : List A) → gather f (filter g xs) ≡ gather (λ x. cond (g x) (f x) []) xs
+  gather-kept g [] = refl
+  gather-kept g (x ∷ xs) = go (gather-kept g xs) (g x)
+    where
+      go : gather f (filter g xs) ≡ gather (λ y. cond (g y) (f y) []) xs → (t : Bool)
+          → gather f (cond t (x ∷ filter g xs) (filter g xs)) ≡ cond t (f x) [] ++ gather (λ y. cond (g y) (f y) []) xs
+      go ih true = ap (λ (t : List B). f x ++ t) ih
+      go ih false = ih
+
+  -- one element replaced
+  pub gather-set : (h : A → List B) (i : ℕ) (xs : List A) (e y : A) → At e i 0 xs → f y ≡ h e
+      → ((x : A) → Mem x (without i xs) → f x ≡ h x) → gather f (set xs i y) ≡ gather h xs
+  gather-set h i [] e y n k g = refl
+  gather-set h zero (x ∷ xs) e y n k g =
+      ap (λ (t : List B). t ++ gather f xs) (k ∙ ap h (at-head n)) ∙ ap (λ (t : List B). h x ++ t) (gather-same h xs g)
+  gather-set h (suc i) (x ∷ xs) e y n k g =
+      ap (λ (t : List B). t ++ gather f (set xs i y)) (g x (here refl))
+      ∙ ap (λ (t : List B). h x ++ t) (gather-set h i xs e y (at-tail n) k (λ z m. g z (next m)))
 
   -- what is gathered, mapped
   pub map-gather : {C : Type 0} (g : B → C) (xs : List A) → map g (gather f xs) ≡ gather (λ x. map g (f x)) xs
