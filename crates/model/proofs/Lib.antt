@@ -12,6 +12,7 @@ pub mod Demand3
 pub mod Column
 pub mod Origin
 pub mod Edited
+pub mod Joined
 pub mod Examples
 pub mod Position
 pub mod Meaning
