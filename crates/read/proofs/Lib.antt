@@ -4,3 +4,4 @@ pub mod Ready
 pub mod Writing
 pub mod Going
 pub mod Answers
+pub mod Unique

@@ -62,10 +62,10 @@ pub fn read_part(
             s = p;
         } else if kind == Entry::STRIKE {
             o = show_rows(base, s, p, out, o);
-            s = p + 1;
+            s = p + 1; // past the struck row
         } else if kind == j as u64 {
             o = show_rows_and(base, s, p, first, out, o);
-            s = p + 1;
+            s = p + 1; // past the changed row
         }
     }
     show_rows(base, s, base.len(), out, o)
