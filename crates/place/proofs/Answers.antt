@@ -41,9 +41,11 @@ module _ {A : Type 0} (wrap : Refusal → A) where
   -- a call whose first tests are those of a check answers as the check does, or by the rest of its tests
   as-checked : (ok : Bool) (c n m : ℕ) (xs : List ℕ) (rest : List Test) (z : A)
       → firstMet wrap (badArgs ok ∷ badForm 0 c n m xs ∷ rest) z
-      ≡ carried (firstMet wrap rest z) (firstMet Refused (badArgs ok ∷ badForm 0 c n m xs ∷ []) (Done (rowsAfter n (layerOf c m xs))))
+      ≡ carried (firstMet wrap rest z) (firstMet Refused (badArgs ok ∷ badForm 0 c n m xs ∷ [])
+      (Done (rowsAfter n (layerOf c m xs))))
   as-checked ok c n m xs rest z =
-      handed ok (breaksForm c n m xs) (refusal 1 0) (refusal 2 (0 + formPlace c n (entriesOf c m xs))) (rowsAfter n (layerOf c m xs))
+      handed ok (breaksForm c n m xs) (refusal 1 0) (refusal 2 (0 + formPlace c n (entriesOf c m xs)))
+      (rowsAfter n (layerOf c m xs))
       (firstMet wrap rest z)
 
 -- the check with a position
@@ -70,7 +72,8 @@ module _ (c n m : ℕ) (xs : List ℕ) (s : ℕ) where
 
 -- the shift, the row number, and the way back
 module _ (c n m : ℕ) (xs : List ℕ) (s : ℕ) where
-  pub shift-checked : shiftAnswer c n m xs s ≡ carried shifted.Refused (shifted.By (shift (layerOf c m xs) s)) (checkedAt c n m xs s)
+  pub shift-checked : shiftAnswer c n m xs s ≡ carried shifted.Refused (shifted.By (shift (layerOf c m xs) s))
+      (checkedAt c n m xs s)
   unfolding shiftAnswer checkedAt
   shift-checked =
       as-checked shifted.Refused (argsOk c n m (length xs) && leb s n) c n m xs [] (shifted.By (shift (layerOf c m xs) s))
@@ -81,7 +84,8 @@ module _ (c n m : ℕ) (xs : List ℕ) (s : ℕ) where
 
   pub back-checked : backAnswer c n m xs s
       ≡ carried backed.Refused
-      (cond (leb (rowsAfter n (layerOf c m xs)) s) (backed.Refused (refusal 5 0)) (originAnswer (back n (layerOf c m xs) s)))
+      (cond (leb (rowsAfter n (layerOf c m xs)) s) (backed.Refused (refusal 5 0))
+      (originAnswer (back n (layerOf c m xs) s)))
       (formAnswer c n m xs)
   unfolding backAnswer formAnswer
   back-checked =
@@ -94,5 +98,6 @@ shift-small c m xs s h =
     leb-true (natAbs (shift (layerOf c m xs) s)) 512
     (shift-bounded (layerOf c m xs) s (omega (arith, layer-length c m xs, h .entries)))
 
-pub row-shown : (c n m : ℕ) (xs : List ℕ) (s : ℕ) → inOrder c n (layerOf c m xs) ≡ true → nonNeg (pos s +ℤ shift (layerOf c m xs) s) ≡ true
+pub row-shown : (c n m : ℕ) (xs : List ℕ) (s : ℕ) → inOrder c n (layerOf c m xs) ≡ true
+    → nonNeg (pos s +ℤ shift (layerOf c m xs) s) ≡ true
 row-shown c n m xs s o = ap nonNeg (sym (row-never-negative c n (layerOf c m xs) o s))

@@ -138,7 +138,7 @@ pub fn shift(c: usize, n: usize, m: usize, layer: &[u64], s: usize) -> Shifted
     }
 }
 
-// The row number of base position s, 0 to n: of a struck row that of the next shown row, or the row count if none follows.
+// The row number of base position s, 0 to n: for a struck row that of the next shown row, or the row count.
 pub fn row(c: usize, n: usize, m: usize, layer: &[u64], s: usize) -> Answer
     ensures { λ r. ⌜ r ≡ rowAnswer c n m (now (layer .entry)) s ⌝ }
 {

@@ -31,7 +31,13 @@ returns : tie.Need-returns
 returns c =
     let f = c .before .before .before in
     let a = f .before .before .args in
-    rw (row-checked (a .c) (a .n) (a .m) (a .layer .now) (a .s), ← f .check-at .ensures, c .before .enum-told .given .1, c .row-at .ensures)
+    rw (
+      row-checked (a .c) (a .n) (a .m) (a .layer .now)
+          (a .s),
+      ← f .check-at .ensures,
+      c .before .enum-told .given .1,
+      c .row-at .ensures,
+    )
 
 returns-2 : tie.Need-returns-2
 returns-2 c =
