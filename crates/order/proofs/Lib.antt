@@ -3,3 +3,4 @@ pub mod Members
 pub mod Counts
 pub mod Pairs
 pub mod Ascending
+pub mod Edited
