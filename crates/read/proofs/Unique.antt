@@ -1,7 +1,7 @@
 -- Any two outcomes that a call's contract allows are equal: answers, buffers, and of a view its numbers and where they lie.
 -- `Post` is the contract itself, as the call is proved to meet it; κs are its lifetimes, a its arguments, s what is lent as the call ends.
 -- Assumes nothing.
-use mathlib.Core.Path.{_≡_, refl, sym, ap, _∙_}
+use mathlib.Core.Path.{_≡_, sym, ap, _∙_}
 use mathlib.Core.List.{List}
 use Prim.Native.Nat.{ℕ}
 use lib.ListN.{length}
@@ -51,7 +51,7 @@ module _ (κs : Lfts 2) (a : Dens κs view-kinds.ps) (s s′ : AtExit (endedOf 2
       let base = a .1 .1 .1 .0 in
       let out = a .1 .1 .1 .1 .1 .0 in
       let part = viewPart (a .0) (a .1 .0) (now (a .1 .1 .0)) (now base) (a .1 .1 .1 .1 .0) (length (now out)) in
-      (p .0 ∙ sym (q .0), same-place base out part r r′ (p .1) (q .1))
+      (p .numbers ∙ sym (q .numbers), same-place base out part r r′ (p .place) (q .place))
 
 module _ (κs : Lfts 2) (a : Dens κs part-kinds.ps) (s s′ : AtExit (endedOf 2 part-kinds.ps part-kinds.r) κs) where
   pub part-unique : (r r′ : Seen) → part-contract.Post κs a r s → part-contract.Post κs a r′ s′ → r ≡ r′
