@@ -5,4 +5,17 @@ pub mod Read
 pub mod Edits
 pub mod Fit
 pub mod Count
+pub mod Conflict
+pub mod Move
+pub mod Redo
+pub mod Demand3
+pub mod Column
+pub mod Origin
+pub mod Edited
+pub mod Joined
 pub mod Examples
+pub mod Position
+pub mod Meaning
+pub mod Canonical
+pub mod Operator
+pub mod Combine

@@ -11,6 +11,8 @@ pub mod Edits
 pub mod Redo
 pub mod Conflict
 pub mod Move
+pub mod Demand
+pub mod Past
 pub mod Meaning
 pub mod Answer
 pub mod Refusals

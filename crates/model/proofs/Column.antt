@@ -1,0 +1,140 @@
+-- A column of what is read is that column read alone, from its base column and the layer; the key column is one of them.
+-- Assumes nothing.
+use mathlib.Core.Path.{_≡_, refl, sym, ap, _∙_}
+use mathlib.Core.Logic.{_⊎_, inl, inr, ⊎-elim}
+use mathlib.Core.Bool.{Bool, true, false, cond, _&&_}
+use mathlib.Core.List.{
+  List,
+  [],
+  _∷_,
+  _++_,
+  map,
+  List·Memᴰ as Mem,
+  List·Memᴰ·head as here,
+  List·Memᴰ·tail as next,
+}
+use Prim.Native.Nat.{ℕ, zero, suc, _≤_, _<_}
+use native.Mathlib.Omega.{arith}
+use lib.ListN.{length}
+use lib.Dec.{leb, eqb}
+use borrow.Author.Tests.{eqb-true, eqb-false, ne-eqb}
+use Rattle.order.proofs.Tests.{and-r}
+use Rattle.order.proofs.Ascending.{At, top, deep, at-mem}
+use Rattle.model.specs.Row.{Row, Table, cell, key, column, keys}
+use Rattle.model.specs.Cell.{CellEdit, done, put}
+use Rattle.model.specs.Layer.{
+  Deed,
+  add,
+  strike,
+  change,
+  Edit,
+  at,
+  Layer,
+  addsAt,
+  struck,
+  changed,
+  changedCell,
+}
+use Rattle.model.specs.Read.{unless, through, read, readColumn, keysAfter}
+use Rattle.model.proofs.Cell.{put-here, put-elsewhere, put-length}
+use Rattle.model.proofs.Layer.{KeyKept, changed-length}
+use Rattle.model.proofs.Read.{Shown, shown}
+use Rattle.model.proofs.Fit.{Good}
+
+module _ {A B : Type 0} where
+  map-append : (f : A → B) (xs ys : List A) → map f (xs ++ ys) ≡ map f xs ++ map f ys
+  map-append f [] ys = refl
+  map-append f (x ∷ xs) ys = ap (λ (t : List B). f x ∷ t) (map-append f xs ys)
+
+  pub map-unless : (f : A → B) (t : Bool) (x : A) → map f (unless t x) ≡ unless t (f x)
+  map-unless f true x = refl
+  map-unless f false x = refl
+
+  -- a pass gives what its two functions give: what is added at each position, and what each row shows at its own
+  pub through-same : (a b : ℕ → List B) (k l : ℕ → A → List B) (s : ℕ) (xs : List A)
+      → ((p : ℕ) → a p ≡ b p) → ((p : ℕ) (x : A) → At x p s xs → k p x ≡ l p x) → through a k s xs ≡ through b l s xs
+  through-same a b k l s [] f g = f s
+  through-same a b k l s (x ∷ xs) f g =
+      let rest = through-same a b k l (suc s) xs f (λ p y n. g p y (deep n)) in
+      rw (f s, g s x (top refl refl)) (ap (λ (t : List B). b s ++ (l s x ++ t)) rest)
+
+module _ {A B C : Type 0} where
+  -- what is made of the result of a pass is made on the way
+  pub through-map : (f : B → C) (a : ℕ → List B) (k : ℕ → A → List B) (s : ℕ) (xs : List A)
+      → map f (through a k s xs) ≡ through (λ p. map f (a p)) (λ p x. map f (k p x)) s xs
+  through-map f a k s [] = refl
+  through-map f a k s (x ∷ xs) =
+      map-append f (a s) (k s x ++ through a k (suc s) xs)
+      ∙ ap (λ (t : List C). map f (a s) ++ t)
+      (map-append f (k s x) (through a k (suc s) xs)
+      ∙ ap (λ (t : List C). map f (k s x) ++ t) (through-map f a k (suc s) xs))
+
+  -- and so is what is made of its rows before
+  pub through-over : (g : A → B) (a : ℕ → List C) (k : ℕ → B → List C) (s : ℕ) (xs : List A)
+      → through a k s (map g xs) ≡ through a (λ p x. k p (g x)) s xs
+  through-over g a k s [] = refl
+  through-over g a k s (x ∷ xs) = ap (λ (t : List C). a s ++ (k s (g x) ++ t)) (through-over g a k (suc s) xs)
+
+-- the cell of a changed row is the changed cell
+put-cell : (j i : ℕ) (e : CellEdit) (r : Row) → j < length r → cell j (put r i e) ≡ cond (eqb j i) (done e (cell j r)) (cell j r)
+put-cell j i e r h = go (eqb j i) refl
+  where
+    go : (t : Bool) → eqb j i ≡ t → cell j (put r i e) ≡ cond t (done e (cell j r)) (cell j r)
+    go true f = rw (← eqb-true j i f) (put-here r j e h)
+    go false f = put-elsewhere r i j e (eqb-false j i f)
+
+changed-cell : (s j : ℕ) (L : Layer) (r : Row) → j < length r → cell j (changed s L r) ≡ changedCell s j L (cell j r)
+changed-cell s j [] r h = refl
+changed-cell s j (at p (add q) ∷ L) r h = changed-cell s j L r h
+changed-cell s j (at p (strike k) ∷ L) r h = changed-cell s j L r h
+changed-cell s j (at p (change i e) ∷ L) r h = go (λ q. changed-cell s j L q) (eqb s p)
+  where
+    go : ((q : Row) → j < length q → cell j (changed s L q) ≡ changedCell s j L (cell j q)) → (t : Bool)
+        → cell j (changed s L (cond t (put r i e) r)) ≡ changedCell s j L (cond (t && eqb j i) (done e (cell j r)) (cell j r))
+    go ih true = ih (put r i e) (omega (arith, put-length r i e)) ∙ ap (changedCell s j L) (put-cell j i e r h)
+    go ih false = ih r h
+
+-- where changes leave the key alone, rows of any length will do
+key-cell : (s : ℕ) (L : Layer) (r : Row) → KeyKept L → cell 0 (changed s L r) ≡ changedCell s 0 L (cell 0 r)
+key-cell s [] r kk = refl
+key-cell s (at p (add q) ∷ L) r kk = key-cell s L r (λ p′ i f m. kk p′ i f (next m))
+key-cell s (at p (strike k) ∷ L) r kk = key-cell s L r (λ p′ i f m. kk p′ i f (next m))
+key-cell s (at p (change i e) ∷ L) r kk = go (λ q. key-cell s L q (λ p′ i′ f m. kk p′ i′ f (next m))) (eqb s p)
+  where
+    other : 0 ≡ i → ⊥
+    other g = omega (arith, kk p i e (here refl))
+
+    go : ((q : Row) → cell 0 (changed s L q) ≡ changedCell s 0 L (cell 0 q)) → (t : Bool)
+        → cell 0 (changed s L (cond t (put r i e) r)) ≡ changedCell s 0 L (cond (t && eqb 0 i) (done e (cell 0 r)) (cell 0 r))
+    go ih true = rw (ne-eqb 0 i other) (ih (put r i e) ∙ ap (changedCell s 0 L) (put-elsewhere r i 0 e other))
+    go ih false = ih r
+
+-- a column where every base row's cell reads as the cell alone does
+by-cell : (j : ℕ) (T : Table) (L : Layer) → ((p : ℕ) (r : Row) → At r p 0 T → cell j (changed p L r) ≡ changedCell p j L (cell j r))
+    → column j (read T L) ≡ readColumn j (column j T) L
+by-cell j T L h =
+    through-map (cell j) (λ p. addsAt p L) (λ p r. unless (struck p L) (changed p L r)) 0 T
+    ∙ (through-same (λ p. column j (addsAt p L)) (λ p. column j (addsAt p L)) _ _ 0 T (λ p. refl)
+    (λ p r n. map-unless (cell j) (struck p L) (changed p L r) ∙ ap (unless (struck p L)) (h p r n))
+    ∙ sym (through-over (cell j) (λ p. column j (addsAt p L)) (λ p v. unless (struck p L) (changedCell p j L v)) 0 T))
+
+-- every row has c values
+abbrev pub Wide : ℕ → Table → Type 0
+Wide c T = (r : Row) → Mem r T → length r ≡ c
+
+-- Reading column j takes only that base column and the layer.
+pub column-read : (c j : ℕ) (T : Table) (L : Layer) → Wide c T → j < c → column j (read T L) ≡ readColumn j (column j T) L
+column-read c j T L w h = by-cell j T L (λ p r n. changed-cell p j L r (omega (arith, w r (at-mem n))))
+
+-- the key column after the layer is that of the rows read
+pub keys-read : (T : Table) (L : Layer) → KeyKept L → keysAfter (keys T) L ≡ keys (read T L)
+unfolding key
+keys-read T L kk = sym (by-cell 0 T L (λ p r n. key-cell p L r kk))
+
+-- and what is read has c columns again
+pub read-wide : (c : ℕ) (T : Table) (L : Layer) → Wide c T → Good c T L → Wide c (read T L)
+read-wide c T L w G r m = go (shown 0 T L r m)
+  where
+    go : Shown 0 T L r → length r ≡ c
+    go (inl a) = eqb-true (length r) c (and-r (leb (a .0) (length T)) (eqb (length r) c) (G .each (at (a .0) (add r)) (a .1)))
+    go (inr a) = ap length (a .4) ∙ (changed-length (a .0) L (a .1) ∙ w (a .1) (at-mem (a .2)))

@@ -1,0 +1,801 @@
+-- Theorem 5: row numbers and origins are inverse, a row number is a position and its shift, the shift is bounded.
+-- Assumes nothing.
+use Prim.Native.Nat.{ℕ, zero, suc, _+_, _-_, _≤_, _<_}
+use native.Mathlib.Nat.{add-zero, zero-add}
+use native.Mathlib.Omega.{arith}
+use mathlib.Core.Path.{_≡_, refl, sym, ap, subst, _∙_}
+use mathlib.Core.Logic.{_⊎_, inl, inr, ⊎-elim}
+use mathlib.Core.Bool.{Bool, true, false, not, cond, _&&_, _||_, true≢false}
+use mathlib.Core.List.{
+  List,
+  [],
+  _∷_,
+  _++_,
+  map,
+  List·Memᴰ as Mem,
+  List·Memᴰ·head as here,
+  List·Memᴰ·tail as next,
+  List·Memᴰ·not-nil as not-nil,
+  List·Memᴰ·append-cases as append-cases,
+  Memᴰ·append-left as in-left,
+  Memᴰ·append-right as in-right,
+}
+use lib.ListN.{length, getD, take, drop, replicate, length-append, List·getD-eq-default}
+use lib.Seq.{append-snoc, getD-append-seam, take-append-seam, split-at, length-take-le}
+use lib.IntN.{ℤ, pos, negsuc, natAbs, subℕ, _+ℤ_}
+use lib.Dec.{leb, ltb, eqb, leb·suc-suc}
+use borrow.Author.Tests.{
+  ltb-true,
+  ltb-false,
+  leb-true,
+  leb-false,
+  eqb-true,
+  lt-ltb,
+  le-ltb,
+  le-leb,
+  lt-leb,
+  eq-eqb,
+  ne-eqb,
+  not-true,
+}
+use Rattle.order.specs.Lists.{one, count, leastBroken}
+use Rattle.order.proofs.Tests.{tests, and-l, and-r, and-of, one-le}
+use Rattle.order.proofs.Counts.{count-append, count-sum, count-same, count-zero, count-le}
+use Rattle.order.proofs.Members.{mem-map, map-mem}
+use Rattle.order.proofs.Pairs.{AllPairs, Unbroken, unbroken}
+use Rattle.order.proofs.Ascending.{At, top, deep, getD-at, at-getD, mem-at, at-mem, at-length}
+use Rattle.model.specs.Row.{Row}
+use Rattle.model.specs.Layer.{
+  Deed,
+  add,
+  strike,
+  change,
+  Edit,
+  at,
+  Layer,
+  position,
+  isAdd,
+  isStrike,
+  rowsAfter,
+  strikesRow,
+  struck,
+}
+use Rattle.model.specs.Form.{sound, after, follows, inOrder}
+use Rattle.model.specs.Read.{unless, through}
+use Rattle.model.specs.Position.{
+  addUpTo,
+  strikeBefore,
+  shift,
+  rowOf,
+  Origin,
+  base,
+  added,
+  addNumbers,
+  originsFrom,
+  origins,
+  back,
+}
+
+-- What a layer in order gives: each edit is sound, and follows each earlier one.
+pub formed : (c n : ℕ) (L : Layer) → inOrder c n L ≡ true → Unbroken (sound c n) follows [] L
+unfolding inOrder
+formed c n L h =
+    unbroken (sound c n) follows [] L (eqb-true (leastBroken (sound c n) follows [] L) (length L) h)
+
+-- of a layer that splits at e: what stands before e is followed by e, and e by what stands after
+pub pairs-at : (E : Layer) (e : Edit) (M : Layer) → AllPairs follows (E ++ (e ∷ M))
+    → ((x : Edit) → Mem x E → follows x e ≡ true) × ((x : Edit) → Mem x M → follows e x ≡ true)
+pairs-at [] e M p = ((λ x m. absurd (not-nil m)), p .0)
+pairs-at (z ∷ E) e M p = let w = pairs-at E e M (p .1) in (first (w .0), w .1)
+  where
+    first : ((x : Edit) → Mem x E → follows x e ≡ true) → (x : Edit) → Mem x (z ∷ E) → follows x e ≡ true
+    first w x (here f) = ap (λ (u : Edit). follows u e) f ∙ p .0 e (in-right E (here refl))
+    first w x (next m) = w x m
+
+-- an edit stands at or after the one that it follows, and after a strike
+pub follows-pos : (p s : ℕ) (d e : Deed) → follows (at p d) (at s e) ≡ true → p ≤ s
+follows-pos p s d e h = go (ltb p s) (eqb p s) refl refl h
+  where
+    go : (t u : Bool) → ltb p s ≡ t → eqb p s ≡ u → (t || (u && after d e)) ≡ true → p ≤ s
+    go true u f g q = omega tests
+    go false true f g q = omega tests
+    go false false f g q = absurd (true≢false (sym q))
+
+pub follows-strike : (p s k : ℕ) (e : Deed) → follows (at p (strike k)) (at s e) ≡ true → p < s
+follows-strike p s k e h = go (ltb p s) (eqb p s) refl refl h
+  where
+    go : (t u : Bool) → ltb p s ≡ t → eqb p s ≡ u → (t || (u && false)) ≡ true → p < s
+    go true u f g q = omega tests
+    go false true f g q = absurd (true≢false (sym q))
+    go false false f g q = absurd (true≢false (sym q))
+
+-- an add at s, and at a position before s
+abbrev pub addAt : ℕ → Edit → Bool
+addAt s (at p (add r)) = eqb s p
+addAt s (at p (strike k)) = false
+addAt s (at p (change j e)) = false
+
+abbrev pub addBefore : ℕ → Edit → Bool
+addBefore s (at p (add r)) = ltb p s
+addBefore s (at p (strike k)) = false
+addBefore s (at p (change j e)) = false
+
+-- up to s is before s or at s
+one-upto : (p s : ℕ) → one (ltb p s) + one (eqb s p) ≡ one (leb p s)
+one-upto p s = go (ltb p s) (eqb s p) refl refl
+  where
+    go : (t u : Bool) → ltb p s ≡ t → eqb s p ≡ u → one t + one u ≡ one (leb p s)
+    go true true f g = absurd (omega tests)
+    go true false f g = rw (le-leb p s (omega tests))
+    go false true f g = rw (le-leb p s (omega tests))
+    go false false f g = rw (lt-leb p s (omega tests))
+
+adds-upto : (s : ℕ) (L : Layer) → count (addBefore s) L + count (addAt s) L ≡ count (addUpTo s) L
+adds-upto s L = count-sum (addBefore s) (addAt s) (addUpTo s) L each
+  where
+    each : (e : Edit) → Mem e L → one (addBefore s e) + one (addAt s e) ≡ one (addUpTo s e)
+    each (at p (add r)) m = one-upto p s
+    each (at p (strike k)) m = refl
+    each (at p (change j e)) m = refl
+
+adds-before-next : (s : ℕ) (L : Layer) → count (addBefore (suc s)) L ≡ count (addUpTo s) L
+adds-before-next s L = count-same (addBefore (suc s)) (addUpTo s) L each
+  where
+    each : (e : Edit) → Mem e L → one (addBefore (suc s) e) ≡ one (addUpTo s e)
+    each (at p (add r)) m = ap one (leb·suc-suc p s)
+    each (at p (strike k)) m = refl
+    each (at p (change j e)) m = refl
+
+strikes-next : (s : ℕ) (L : Layer) → count (strikeBefore s) L + count (strikesRow s) L ≡ count (strikeBefore (suc s)) L
+strikes-next s L = count-sum (strikeBefore s) (strikesRow s) (strikeBefore (suc s)) L each
+  where
+    each : (e : Edit) → Mem e L → one (strikeBefore s e) + one (strikesRow s e) ≡ one (strikeBefore (suc s) e)
+    each (at p (add r)) m = refl
+    each (at p (strike k)) m = one-upto p s ∙ sym (ap one (leb·suc-suc p s))
+    each (at p (change j e)) m = refl
+
+-- nothing stands before position 0
+adds-first : (L : Layer) → count (addBefore 0) L ≡ 0
+adds-first L = count-zero (addBefore 0) L each
+  where
+    each : (e : Edit) → Mem e L → one (addBefore 0 e) ≡ 0
+    each (at p (add r)) m = ap one (le-ltb p 0 (omega arith))
+    each (at p (strike k)) m = refl
+    each (at p (change j e)) m = refl
+
+strikes-first : (L : Layer) → count (strikeBefore 0) L ≡ 0
+strikes-first L = count-zero (strikeBefore 0) L each
+  where
+    each : (e : Edit) → Mem e L → one (strikeBefore 0 e) ≡ 0
+    each (at p (add r)) m = refl
+    each (at p (strike k)) m = ap one (le-ltb p 0 (omega arith))
+    each (at p (change j e)) m = refl
+
+-- at most one strike stands at a position
+strikes-once : (s : ℕ) (L : Layer) → AllPairs follows L → count (strikesRow s) L ≡ one (struck s L)
+strikes-once s [] p = refl
+strikes-once s (at q (add r) ∷ L) p = omega (arith, strikes-once s L (p .1))
+strikes-once s (at q (change j e) ∷ L) p = omega (arith, strikes-once s L (p .1))
+strikes-once s (at q (strike k) ∷ L) p = go (strikes-once s L (p .1)) (eqb s q) refl
+  where
+    go : count (strikesRow s) L ≡ one (struck s L) → (t : Bool) → eqb s q ≡ t
+        → one t + count (strikesRow s) L ≡ one (t || struck s L)
+    go ih true f = rw (count-zero (strikesRow s) L each)
+      where
+        each : (e : Edit) → Mem e L → one (strikesRow s e) ≡ 0
+        each (at w (add r)) m = refl
+        each (at w (strike l)) m = ap one (ne-eqb s w
+            (λ g. omega (tests, follows-strike q w k (strike l) (p .0 (at w (strike l)) m))))
+        each (at w (change j e)) m = refl
+    go ih false f = omega arith
+
+-- strikes before s are at most s
+pub strikes-few : (s : ℕ) (L : Layer) → AllPairs follows L → count (strikeBefore s) L ≤ s
+strikes-few zero L p = omega (arith, strikes-first L)
+strikes-few (suc s) L p = omega (arith, strikes-few s L p, strikes-next s L, strikes-once s L p, one-le (struck s L))
+
+-- A layer in order over n rows: every add stands at n or before, every strike before n.
+module _ (c n : ℕ) (L : Layer) (U : Unbroken (sound c n) follows [] L) where
+  pub adds-within : count (addUpTo n) L ≡ count isAdd L
+  adds-within = count-same (addUpTo n) isAdd L each
+    where
+      each : (e : Edit) → Mem e L → one (addUpTo n e) ≡ one (isAdd e)
+      each (at p (add r)) m = ap one (and-l (leb p n) (eqb (length r) c) (U .each (at p (add r)) m))
+      each (at p (strike k)) m = refl
+      each (at p (change j e)) m = refl
+
+  pub strikes-within : count (strikeBefore n) L ≡ count isStrike L
+  strikes-within = count-same (strikeBefore n) isStrike L each
+    where
+      each : (e : Edit) → Mem e L → one (strikeBefore n e) ≡ one (isStrike e)
+      each (at p (add r)) m = refl
+      each (at p (strike k)) m = ap one (U .each (at p (strike k)) m)
+      each (at p (change j e)) m = refl
+
+-- the row number of the added entry number i: its position, and the adds before it in the layer, less the strikes before it
+abbrev pub rowOfEntry : Layer → ℕ → ℕ
+rowOfEntry L i = (position (getD L i (at 0 (strike 0))) + count isAdd (take i L)) - count isStrike (take i L)
+
+-- the row number of an origin
+abbrev pub number : Layer → Origin → ℕ
+number L (base s) = rowOf L s
+number L (added i) = rowOfEntry L i
+
+-- the shown rows before position s: what is added before s and not struck before s
+abbrev pub rowsBefore : Layer → ℕ → ℕ
+rowsBefore L s = (s + count (addBefore s) L) - count (strikeBefore s) L
+
+-- origins have the numbers from k on, one after the other
+abbrev Numbered : Layer → ℕ → List Origin → Type 0
+Numbered L k [] = Unit {0}
+Numbered L k (o ∷ os) = (number L o ≡ k) × Numbered L (suc k) os
+
+numbered-from : (L : Layer) (k l : ℕ) (os : List Origin) → k ≡ l → Numbered L k os → Numbered L l os
+numbered-from L k l os e N = rw (← e) N
+
+numbered-append : (L : Layer) (k : ℕ) (os us : List Origin) → Numbered L k os → Numbered L (k + length os) us
+    → Numbered L k (os ++ us)
+numbered-append L k [] us N M = numbered-from L (k + 0) k us (omega arith) M
+numbered-append L k (o ∷ os) us N M = (
+  N .0,
+  numbered-append L (suc k) os us (N .1)
+      (numbered-from L (k + suc (length os)) (suc k + length os) us (omega arith) M),
+)
+
+numbered-getD : (L : Layer) (k r : ℕ) (os : List Origin) (d : Origin) → Numbered L k os → r < length os
+    → number L (getD os r d) ≡ k + r
+numbered-getD L k r [] d N h = absurd (omega arith)
+numbered-getD L k zero (o ∷ os) d N h = N .0 ∙ sym (add-zero k)
+numbered-getD L k (suc r) (o ∷ os) d N h = numbered-getD L (suc k) r os d (N .1) (omega arith) ∙ omega arith
+
+-- an add at s that stands between E and M
+module _ (s : ℕ) (row : Row) (E M : Layer) (P : AllPairs follows (E ++ (at s (add row) ∷ M))) where
+  earlier-adds : count isAdd E ≡ count (addBefore s) (E ++ (at s (add row) ∷ M)) + count (addAt s) E
+  earlier-adds =
+      omega (
+        arith,
+        count-append (addBefore s) E (at s (add row) ∷ M),
+        count-sum (addBefore s) (addAt s) isAdd E before,
+        count-zero (addBefore s) M later,
+        ap one (le-ltb s s (omega arith)),
+      )
+    where
+      before : (e : Edit) → Mem e E → one (addBefore s e) + one (addAt s e) ≡ one (isAdd e)
+      before (at p (add r)) m =
+          one-upto p s ∙ ap one (le-leb p s (follows-pos p s (add r) (add row)
+          (pairs-at E (at s (add row)) M P .0 (at p (add r)) m)))
+      before (at p (strike k)) m = refl
+      before (at p (change j e)) m = refl
+
+      later : (e : Edit) → Mem e M → one (addBefore s e) ≡ 0
+      later (at p (add r)) m =
+          ap one (le-ltb p s (follows-pos s p (add row) (add r) (pairs-at E (at s (add row)) M P .1 (at p (add r)) m)))
+      later (at p (strike k)) m = refl
+      later (at p (change j e)) m = refl
+
+  earlier-strikes : count isStrike E ≡ count (strikeBefore s) (E ++ (at s (add row) ∷ M))
+  earlier-strikes =
+      omega (
+        arith,
+        count-append (strikeBefore s) E (at s (add row) ∷ M),
+        count-same (strikeBefore s) isStrike E before,
+        count-zero (strikeBefore s) M later,
+      )
+    where
+      before : (e : Edit) → Mem e E → one (strikeBefore s e) ≡ one (isStrike e)
+      before (at p (add r)) m = refl
+      before (at p (strike k)) m =
+          ap one (lt-ltb p s (follows-strike p s k (add row) (pairs-at E (at s (add row)) M P .0 (at p (strike k)) m)))
+      before (at p (change j e)) m = refl
+
+      later : (e : Edit) → Mem e M → one (strikeBefore s e) ≡ 0
+      later (at p (add r)) m = refl
+      later (at p (strike k)) m =
+          ap one (le-ltb p s (follows-pos s p (add row) (strike k)
+          (pairs-at E (at s (add row)) M P .1 (at p (strike k)) m)))
+      later (at p (change j e)) m = refl
+
+  add-number : rowOfEntry (E ++ (at s (add row) ∷ M)) (length E)
+      ≡ rowsBefore (E ++ (at s (add row) ∷ M)) s + count (addAt s) E
+  add-number =
+      rw (getD-append-seam E (at s (add row)) M (at 0 (strike 0)), take-append-seam E (at s (add row) ∷ M))
+      (omega (arith, earlier-adds, earlier-strikes, strikes-few s (E ++ (at s (add row) ∷ M)) P))
+
+-- The adds at s have the numbers from the rows before s on.
+adds-length : (s i : ℕ) (M : Layer) → length (map added (addNumbers s i M)) ≡ count (addAt s) M
+adds-length s i [] = refl
+adds-length s i (at p (add r) ∷ M) =
+    let ih = adds-length s (suc i) M in
+    elim (eqb s p)
+    as (λ t. length (map added (cond t (i ∷ addNumbers s (suc i) M) (addNumbers s (suc i) M)))
+    ≡ one t + count (addAt s) M) [
+      | true ↦ omega arith
+      | false ↦ omega arith
+    ]
+adds-length s i (at p (strike k) ∷ M) = omega (arith, adds-length s (suc i) M)
+adds-length s i (at p (change j e) ∷ M) = omega (arith, adds-length s (suc i) M)
+
+module _ (L : Layer) (P : AllPairs follows L) (s : ℕ) where
+  -- the row number that the next add at s has, once the entries E are passed
+  abbrev nextAdd : Layer → ℕ
+  nextAdd E = rowsBefore L s + count (addAt s) E
+
+  abbrev addsLeft : Layer → Layer → List Origin
+  addsLeft E M = map added (addNumbers s (length E) M)
+
+  past : (E : Layer) (x : Edit) (M : Layer) → Numbered L (nextAdd (E ++ (x ∷ []))) (addsLeft (E ++ (x ∷ [])) M)
+      → Numbered L (one (addAt s x) + nextAdd E) (map added (addNumbers s (suc (length E)) M))
+  past E x M N =
+      let l : length (E ++ (x ∷ [])) ≡ suc (length E) = omega (arith, length-append E (x ∷ [])) in
+      numbered-from L (nextAdd (E ++ (x ∷ []))) (one (addAt s x) + nextAdd E)
+      (map added (addNumbers s (suc (length E)) M))
+      (omega (arith, count-append (addAt s) E (x ∷ []))) (rw l at N)
+
+  skip : (E M : Layer) → Numbered L (0 + nextAdd E) (map added (addNumbers s (suc (length E)) M))
+      → Numbered L (nextAdd E) (map added (addNumbers s (suc (length E)) M))
+  skip E M N = numbered-from L (0 + nextAdd E) (nextAdd E) (map added (addNumbers s (suc (length E)) M)) (omega arith) N
+
+  adds-numbered : (E M : Layer) → L ≡ E ++ M → Numbered L (nextAdd E) (addsLeft E M)
+  adds-numbered E [] w = tt
+  adds-numbered E (x ∷ M) w = step x w (past E x M (adds-numbered (E ++ (x ∷ [])) M (w ∙ sym (append-snoc E x M))))
+    where
+      step : (x : Edit) → L ≡ E ++ (x ∷ M) → Numbered L (one (addAt s x) + nextAdd E)
+          (map added (addNumbers s (suc (length E)) M))
+          → Numbered L (nextAdd E) (addsLeft E (x ∷ M))
+      step (at p (add r)) w N = go (eqb s p) refl N
+        where
+          go : (t : Bool) → eqb s p ≡ t → Numbered L (one t + nextAdd E) (map added (addNumbers s (suc (length E)) M))
+              → Numbered L (nextAdd E) (map added
+              (cond t (length E ∷ addNumbers s (suc (length E)) M) (addNumbers s (suc (length E)) M)))
+          go true f N =
+              let q : s ≡ p = eqb-true s p f in
+              let w′ : L ≡ E ++ (at s (add r) ∷ M) = w ∙ ap (λ (k : ℕ). E ++ (at k (add r) ∷ M)) (sym q) in (
+                rw w′ (add-number s r E M (rw w′ at P)),
+                numbered-from L (1 + nextAdd E) (suc (nextAdd E))
+                    (map added (addNumbers s (suc (length E)) M)) (omega arith) N,
+              )
+          go false f N = skip E M N
+      step (at p (strike k)) w N = skip E M N
+      step (at p (change j e)) w N = skip E M N
+
+-- The whole list has the numbers from 0 on.
+unless-length : (t : Bool) (o : Origin) → one t + length (unless t o) ≡ 1
+unless-length true o = refl
+unless-length false o = refl
+
+module _ (L : Layer) (P : AllPairs follows L) where
+  abbrev addsOf : ℕ → List Origin
+  addsOf s = map added (addNumbers s 0 L)
+
+  abbrev rowOrNone : ℕ → List Origin
+  rowOrNone s = unless (struck s L) (base s)
+
+  -- the adds at s end where row s stands
+  pub row-after-adds : (s : ℕ) → rowOf L s ≡ rowsBefore L s + count (addAt s) L
+  unfolding rowOf
+  row-after-adds s = omega (arith, adds-upto s L, strikes-few s L P)
+
+  -- the rows before the next position are those up to row s, and row s itself where it is not struck
+  pub rows-before-next : (s : ℕ) → rowsBefore L (suc s) + one (struck s L) ≡ rowOf L s + 1
+  unfolding rowOf
+  rows-before-next s =
+      omega (
+        arith,
+        adds-before-next s L,
+        strikes-next s L,
+        strikes-once s L P,
+        strikes-few s L P,
+        strikes-few (suc s) L P,
+      )
+
+  adds-block : (s : ℕ) → Numbered L (rowsBefore L s) (addsOf s)
+  adds-block s =
+      numbered-from L (rowsBefore L s + 0) (rowsBefore L s) (addsOf s) (omega arith) (adds-numbered L P s [] L refl)
+
+  row-block : (s : ℕ) → Numbered L (rowOf L s) (rowOrNone s)
+  row-block s = elim (struck s L) as (λ t. Numbered L (rowOf L s) (unless t (base s))) [ true ↦ tt | false ↦ (refl, tt) ]
+
+  all-numbered : (k s : ℕ) → Numbered L (rowsBefore L s) (originsFrom s (replicate k 0) L)
+  all-numbered zero s = adds-block s
+  all-numbered (suc k) s =
+      numbered-append L (rowsBefore L s) (addsOf s) (rowOrNone s ++ originsFrom (suc s) (replicate k 0) L) (adds-block s)
+      (numbered-from L (rowOf L s) (rowsBefore L s + length (addsOf s))
+      (rowOrNone s ++ originsFrom (suc s) (replicate k 0) L)
+      (omega (arith, row-after-adds s, adds-length s 0 L))
+      (numbered-append L (rowOf L s) (rowOrNone s) (originsFrom (suc s) (replicate k 0) L) (row-block s)
+      (numbered-from L (rowsBefore L (suc s)) (rowOf L s + length (rowOrNone s)) (originsFrom (suc s) (replicate k 0) L)
+      (omega (arith, rows-before-next s, unless-length (struck s L) (base s))) (all-numbered k (suc s)))))
+
+  all-length : (k s : ℕ) → rowsBefore L s + length (originsFrom s (replicate k 0) L) ≡ rowOf L (s + k)
+  all-length zero s = rw add-zero (omega (arith, row-after-adds s, adds-length s 0 L))
+  all-length (suc k) s =
+      let e : suc s + k ≡ s + suc k = omega arith in
+      omega (
+        arith,
+        length-append (addsOf s) (rowOrNone s ++ originsFrom (suc s) (replicate k 0) L),
+        length-append (rowOrNone s) (originsFrom (suc s) (replicate k 0) L),
+        adds-length s 0 L,
+        row-after-adds s,
+        rows-before-next s,
+        unless-length (struck s L) (base s),
+        all-length k (suc s),
+        ap (rowOf L) e,
+      )
+
+  pub origins-length : (n : ℕ) → length (origins n L) ≡ rowOf L n
+  unfolding origins
+  origins-length n =
+      omega (arith, all-length n 0, adds-first L, strikes-first L, ap (rowOf L) (zero-add n))
+
+  -- the origin that stands at r has the number r
+  pub number-back : (n r : ℕ) → r < length (origins n L) → number L (back n L r) ≡ r
+  unfolding origins
+  number-back n r h =
+      omega (
+        arith,
+        numbered-getD L (rowsBefore L 0) r (originsFrom 0 (replicate n 0) L) (base n)
+            (all-numbered n 0) h,
+        adds-first L,
+        strikes-first L,
+      )
+
+-- Who is an origin: the base rows below n that are not struck, and the entries that add.
+abbrev pub entryNo : Layer → ℕ → Edit
+entryNo L i = getD L i (at 0 (strike 0))
+
+abbrev pub isShown : ℕ → Layer → Origin → Bool
+isShown n L (base s) = ltb s n && not (struck s L)
+isShown n L (added i) = isAdd (entryNo L i)
+
+module _ {A B : Type 0} (f : ℕ → List B) (g : ℕ → A → List B) (o : B) where
+  -- o is added at a position from s to n, or shown by a row from s to n - 1
+  abbrev Comes : ℕ → ℕ → A → Type 0
+  Comes s n x = ((p : ℕ) × (s ≤ p) × (p ≤ n) × Mem o (f p)) ⊎ ((p : ℕ) × (s ≤ p) × (p < n) × Mem o (g p x))
+
+  through-mem : (x : A) (k s : ℕ) → Mem o (through f g s (replicate k x)) → Comes s (s + k) x
+  through-mem x zero s m = inl (s, omega arith, omega arith, m)
+  through-mem x (suc k) s m =
+      ⊎-elim (λ m₁. inl (s, omega arith, omega arith, m₁))
+      (λ m₁. ⊎-elim (λ m₂. inr (s, omega arith, omega arith, m₂)) (λ m₂. later (through-mem x k (suc s) m₂))
+      (append-cases (g s x) m₁))
+      (append-cases (f s) m)
+    where
+      later : Comes (suc s) (suc s + k) x → Comes s (s + suc k) x
+      later (inl w) = inl (w .0, omega (arith, w .1), omega (arith, w .2), w .3)
+      later (inr w) = inr (w .0, omega (arith, w .1), omega (arith, w .2), w .3)
+
+  mem-through : (x : A) (k s : ℕ) → Comes s (s + k) x → Mem o (through f g s (replicate k x))
+  mem-through x zero s (inl w) =
+      let e : w .0 ≡ s = omega (arith, w .1, w .2) in
+      rw e at (w .3)
+  mem-through x zero s (inr w) = absurd (omega (arith, w .1, w .2))
+  mem-through x (suc k) s w = go w (λ v. in-right (f s) (in-right (g s x) (mem-through x k (suc s) v)))
+    where
+      go : Comes s (s + suc k) x → (Comes (suc s) (suc s + k) x → Mem o (through f g s (replicate (suc k) x)))
+          → Mem o (through f g s (replicate (suc k) x))
+      go (inl v) rest = at-s (eqb (v .0) s) refl
+        where
+          at-s : (t : Bool) → eqb (v .0) s ≡ t → Mem o (through f g s (replicate (suc k) x))
+          at-s true e = in-left (g s x ++ through f g (suc s) (replicate k x)) (rw (eqb-true (v .0) s e) at (v .3))
+          at-s false e = rest (inl (v .0, omega (tests, v .1), omega (arith, v .2), v .3))
+      go (inr v) rest = at-s (eqb (v .0) s) refl
+        where
+          at-s : (t : Bool) → eqb (v .0) s ≡ t → Mem o (through f g s (replicate (suc k) x))
+          at-s true e = in-right (f s) (in-left (through f g (suc s) (replicate k x))
+              (rw (eqb-true (v .0) s e) at (v .3)))
+          at-s false e = rest (inr (v .0, omega (tests, v .1), omega (arith, v .2), v .3))
+
+-- the numbers of the adds at s are the places of such entries
+adds-mem : (s i j : ℕ) (M : Layer) → Mem i (addNumbers s j M) → (row : Row) × At (at s (add row)) i j M
+adds-mem s i j [] m = absurd (not-nil m)
+adds-mem s i j (x ∷ M) m = step x (λ n. adds-mem s i (suc j) M n) m
+  where
+    later : {x : Edit} → (row : Row) × At (at s (add row)) i (suc j) M → (row : Row) × At (at s (add row)) i j (x ∷ M)
+    later w = (w .0, deep (w .1))
+
+    step : (x : Edit) → (Mem i (addNumbers s (suc j) M) → (row : Row) × At (at s (add row)) i (suc j) M)
+        → Mem i (addNumbers s j (x ∷ M))
+        → (row : Row) × At (at s (add row)) i j (x ∷ M)
+    step (at p (add r)) ih m = go (eqb s p) refl m
+      where
+        go : (t : Bool) → eqb s p ≡ t → Mem i (cond t (j ∷ addNumbers s (suc j) M) (addNumbers s (suc j) M))
+            → (row : Row) × At (at s (add row)) i j (at p (add r) ∷ M)
+        go true e (here f) = (r, top {s = j} (ap (λ (q : ℕ). at q (add r)) (eqb-true s p e)) f)
+        go true e (next n) = later (ih n)
+        go false e n = later (ih n)
+    step (at p (strike k)) ih m = later (ih m)
+    step (at p (change l e)) ih m = later (ih m)
+
+mem-adds : (s i j : ℕ) (row : Row) (M : Layer) → At (at s (add row)) i j M → Mem i (addNumbers s j M)
+mem-adds s i j row (x ∷ M) (top e f) = rw (← e, eq-eqb s s refl) (here f)
+mem-adds s i j row (x ∷ M) (deep n) = step x (mem-adds s i (suc j) row M n)
+  where
+    step : (x : Edit) → Mem i (addNumbers s (suc j) M) → Mem i (addNumbers s j (x ∷ M))
+    step (at p (add r)) m =
+        elim (eqb s p) as (λ t. Mem i (cond t (j ∷ addNumbers s (suc j) M)
+        (addNumbers s (suc j) M))) [ true ↦ next m | false ↦ m ]
+    step (at p (strike k)) m = m
+    step (at p (change l e)) m = m
+
+-- an entry that adds
+add-is : (e : Edit) → isAdd e ≡ true → (row : Row) × (e ≡ at (position e) (add row))
+add-is (at p (add r)) h = (r, refl)
+add-is (at p (strike k)) h = absurd (true≢false (sym h))
+add-is (at p (change j e)) h = absurd (true≢false (sym h))
+
+pub add-in : (L : Layer) (i : ℕ) → isAdd (entryNo L i) ≡ true → i < length L
+add-in [] i h = absurd (true≢false (sym h))
+add-in (x ∷ L) zero h = omega arith
+add-in (x ∷ L) (suc i) h = omega (arith, add-in L i h)
+
+add-at : (L : Layer) (i : ℕ) → isAdd (entryNo L i) ≡ true → (row : Row) × At (at (position (entryNo L i)) (add row)) i 0 L
+add-at L i h =
+    let w = add-is (entryNo L i) h in
+    (w .0, rw (w .1) at (getD-at L i (at 0 (strike 0)) (add-in L i h)))
+
+-- a base row's origin is listed where the row is not struck
+unless-mem : (t : Bool) (o u : Origin) → Mem o (unless t u) → (t ≡ false) × (o ≡ u)
+unless-mem true o u m = absurd (not-nil m)
+unless-mem false o u (here e) = (refl, e)
+unless-mem false o u (next m) = absurd (not-nil m)
+
+module _ (n : ℕ) (L : Layer) where
+  abbrev adds : ℕ → List Origin
+  adds p = map added (addNumbers p 0 L)
+
+  abbrev rows : ℕ → ℕ → List Origin
+  rows p x = unless (struck p L) (base p)
+
+  origins-mem : (o : Origin) → Mem o (origins n L) → isShown n L o ≡ true
+  unfolding origins
+  origins-mem o m = ⊎-elim by-add by-row (through-mem adds rows o 0 n 0 m)
+    where
+      by-add : (p : ℕ) × (0 ≤ p) × (p ≤ 0 + n) × Mem o (adds p) → isShown n L o ≡ true
+      by-add (p, a, b, k) =
+          let w = map-mem added (addNumbers p 0 L) o k in
+          let v = adds-mem p (w .0) 0 L (w .1) in
+          ap (isShown n L) (w .2) ∙ ap isAdd (at-getD (at 0 (strike 0)) (v .1))
+
+      by-row : (p : ℕ) × (0 ≤ p) × (p < 0 + n) × Mem o (rows p 0) → isShown n L o ≡ true
+      by-row (p, a, b, k) =
+          let w = unless-mem (struck p L) o (base p) k in
+          ap (isShown n L) (w .1) ∙ and-of (ltb p n) (not (struck p L)) (lt-ltb p n (omega arith)) (ap not (w .0))
+
+  mem-origins : (c : ℕ) → Unbroken (sound c n) follows [] L → (o : Origin) → isShown n L o ≡ true → Mem o (origins n L)
+  unfolding origins
+  mem-origins c U (base s) h =
+      let e : struck s L ≡ false = not-true (struck s L) (and-r (ltb s n) (not (struck s L)) h) in
+      let b : s < 0 + n = omega (arith, ltb-true s n (and-l (ltb s n) (not (struck s L)) h)) in
+      mem-through adds rows (base s) 0 n 0 (inr (s, omega arith, b, rw e (here refl)))
+  mem-origins c U (added i) h =
+      let w = add-at L i h in
+      let p : ℕ = position (entryNo L i) in
+      let b : p ≤ n = leb-true p n (and-l (leb p n) (eqb (length (w .0)) c)
+      (U .each (at p (add (w .0))) (at-mem (w .1)))) in
+      mem-through adds rows (added i) 0 n 0
+      (inl (p, omega arith, omega arith, mem-map added (addNumbers p 0 L) i (mem-adds p i 0 (w .0) L (w .1))))
+
+-- An entry that adds at p has a number from the rows before p on, and below that of row p.
+abbrev Stands : ℕ → Layer → ℕ → Type 0
+Stands p L i = (rowsBefore L p ≤ rowOfEntry L i) × (rowOfEntry L i < rowOf L p)
+
+split-stands : (s : ℕ) (row : Row) (E M : Layer) → AllPairs follows (E ++ (at s (add row) ∷ M))
+    → Stands s (E ++ (at s (add row) ∷ M)) (length E)
+split-stands s row E M P = (
+  omega (arith, add-number s row E M P),
+  omega (
+    arith,
+    add-number s row E M P,
+    row-after-adds (E ++ (at s (add row) ∷ M)) P s,
+    count-append (addAt s) E (at s (add row) ∷ M),
+    ap one (eq-eqb s s refl),
+  ),
+)
+
+entry-stands : (L : Layer) → AllPairs follows L → (i : ℕ) → isAdd (entryNo L i) ≡ true
+    → Stands (position (entryNo L i)) L i
+entry-stands L P i h =
+    let b : i < length L = add-in L i h in
+    let w = add-is (entryNo L i) h in
+    let p : ℕ = position (entryNo L i) in
+    let E : Layer = take i L in
+    let M : Layer = drop (suc i) L in
+    let e : L ≡ E ++ (at p (add (w .0)) ∷ M) =
+    split-at L i (at 0 (strike 0)) b ∙ ap (λ (x : Edit). E ++ (x ∷ M)) (w .1) in
+    subst (Stands p L) (length-take-le i L (omega arith))
+    (subst (λ (K : Layer). Stands p K (length E)) (sym e)
+    (split-stands p (w .0) E M (subst (λ (K : Layer). AllPairs follows K) e P)))
+
+-- row numbers never fall from one position to the next
+module _ (L : Layer) (P : AllPairs follows L) where
+  rows-step : (s : ℕ) → rowOf L s ≤ rowsBefore L (suc s)
+  rows-step s = omega (arith, rows-before-next L P s, one-le (struck s L))
+
+  rows-more : (k s : ℕ) → rowOf L s ≤ rowOf L (s + k)
+  rows-more zero s = rw add-zero (omega arith)
+  rows-more (suc k) s =
+      let e : suc s + k ≡ s + suc k = omega arith in
+      omega (arith, rows-step s, row-after-adds L P (suc s), rows-more k (suc s), ap (rowOf L) e)
+
+  pub rows-rise : (s t : ℕ) → s ≤ t → rowOf L s ≤ rowOf L t
+  rows-rise s t h =
+      let e : s + (t - s) ≡ t = omega arith in
+      omega (arith, rows-more (t - s) s, ap (rowOf L) e)
+
+  -- every row up to s stands before what comes after position s
+  rows-up : (s t : ℕ) → s < t → rowOf L s ≤ rowsBefore L t
+  rows-up s zero h = absurd (omega arith)
+  rows-up s (suc t) h = omega (arith, rows-rise s t (omega arith), rows-step t)
+
+  -- a row that is not struck stands before what comes after it
+  pub row-passed : (s t : ℕ) → s < t → struck s L ≡ false → rowOf L s < rowOf L t
+  row-passed s t h e =
+      omega (arith, rows-before-next L P s, ap one e, row-after-adds L P (suc s), rows-rise (suc s) t h)
+
+-- where an origin stands to position s: a base row before s, or an add up to s; else a base row from s on, or an add after s
+abbrev pub standsBefore : Layer → ℕ → Origin → Bool
+standsBefore L s (base t) = ltb t s
+standsBefore L s (added i) = leb (position (entryNo L i)) s
+
+-- a base row or an add after s
+abbrev pub standsAfter : Layer → ℕ → Origin → Bool
+standsAfter L s (base t) = ltb s t
+standsAfter L s (added i) = ltb s (position (entryNo L i))
+
+-- a number from -k to k
+abbrev pub fromTo : ℕ → ℤ → Bool
+fromTo k z = leb (natAbs z) k
+
+-- a + (b - c) in integers, where it is not negative
+sum-of : (a b c : ℕ) → c ≤ a + b → pos a +ℤ subℕ b c ≡ pos ((a + b) - c)
+sum-of a b c h = go (ltb b c) refl
+  where
+    go : (t : Bool) → ltb b c ≡ t → pos a +ℤ cond t (negsuc (c - suc b)) (pos (b - c)) ≡ pos ((a + b) - c)
+    go true e =
+        rw (le-ltb a (suc (c - suc b)) (omega tests))
+        (ap pos (let w : a - suc (c - suc b) ≡ (a + b) - c = omega tests in w))
+    go false e = ap pos (let w : a + (b - c) ≡ (a + b) - c = omega tests in w)
+
+sub-bounded : (k a b : ℕ) → a ≤ k → b ≤ k → fromTo k (subℕ a b) ≡ true
+sub-bounded k a b ha hb = go (ltb a b) refl
+  where
+    go : (t : Bool) → ltb a b ≡ t → fromTo k (cond t (negsuc (b - suc a)) (pos (a - b))) ≡ true
+    go true e = le-leb (suc (b - suc a)) k (omega tests)
+    go false e = le-leb (a - b) k (omega tests)
+
+-- The statements, for a layer in order over n rows.
+
+-- the shift lies from -512 to 512
+pub shift-bounded : (L : Layer) (s : ℕ) → length L ≤ 512 → fromTo 512 (shift L s) ≡ true
+unfolding shift
+shift-bounded L s h =
+    sub-bounded 512 (count (addUpTo s) L) (count (strikeBefore s) L) (omega (arith, count-le (addUpTo s) L))
+    (omega (arith, count-le (strikeBefore s) L))
+
+module _ (c n : ℕ) (L : Layer) (ok : inOrder c n L ≡ true) where
+  U : Unbroken (sound c n) follows [] L
+  U = formed c n L ok
+
+  -- the rows shown are n + adds - strikes, and the strikes are at most n
+  pub rows-counted : (length (origins n L) ≡ rowsAfter n L) × (count isStrike L ≤ n)
+  unfolding rowOf
+  rows-counted = (
+    omega (arith, origins-length L (U .pairs) n, adds-within c n L U, strikes-within c n L U),
+    omega (arith, strikes-few n L (U .pairs), strikes-within c n L U),
+  )
+
+  -- row number = s + shift, in integers: the row is never negative
+  pub row-never-negative : (s : ℕ) → pos (rowOf L s) ≡ pos s +ℤ shift L s
+  unfolding rowOf shift
+  row-never-negative s =
+      sym (sum-of s (count (addUpTo s) L) (count (strikeBefore s) L) (omega (arith, strikes-few s L (U .pairs))))
+
+  -- the origin at row r is shown, and r is its number
+  pub back-number : (r : ℕ) → r < rowsAfter n L → (isShown n L (back n L r) ≡ true) × (number L (back n L r) ≡ r)
+  back-number r h =
+      let b : r < length (origins n L) = omega (arith, rows-counted .0) in
+      (origins-mem n L (back n L r) (at-mem (getD-at (origins n L) r (base n) b)), number-back L (U .pairs) n r b)
+
+  -- what is shown stands at its number
+  pub number-shown : (o : Origin) → isShown n L o ≡ true → (number L o < rowsAfter n L) × (back n L (number L o) ≡ o)
+  number-shown o h =
+      let w = mem-at 0 (origins n L) o (mem-origins n L c U o h) in
+      let p : ℕ = w .0 in
+      let b : p < length (origins n L) = omega (arith, at-length (w .1)) in
+      let e : back n L p ≡ o = at-getD (base n) (w .1) in
+      let q : number L o ≡ p = ap (number L) (sym e) ∙ number-back L (U .pairs) n p b in
+      (omega (arith, rows-counted .0), ap (back n L) q ∙ e)
+
+  -- every row number below the count is one base row or added entry, and no two are the same
+  pub row-numbers-distinct : (r t : ℕ) → r < rowsAfter n L → t < rowsAfter n L → back n L r ≡ back n L t → r ≡ t
+  row-numbers-distinct r t h k e = sym (back-number r h .1) ∙ ap (number L) e ∙ back-number t k .1
+
+  -- a base row that is not struck, to its row number and back
+  pub base-row-back : (s : ℕ) → s < n → struck s L ≡ false → (rowOf L s < rowsAfter n L) × (back n L (rowOf L s) ≡ base s)
+  base-row-back s h e = number-shown (base s) (and-of (ltb s n) (not (struck s L)) (lt-ltb s n h) (ap not e))
+
+  pub back-base-row : (r s : ℕ) → r < rowsAfter n L → back n L r ≡ base s
+      → (s < n) × (struck s L ≡ false) × (rowOf L s ≡ r)
+  back-base-row r s h e =
+      let w = back-number r h in
+      let t : ltb s n && not (struck s L) ≡ true = ap (isShown n L) (sym e) ∙ w .0 in (
+        ltb-true s n (and-l (ltb s n) (not (struck s L)) t),
+        not-true (struck s L) (and-r (ltb s n) (not (struck s L)) t),
+        ap (number L) (sym e) ∙ w .1,
+      )
+
+  -- an entry that adds, to its row number and back
+  pub added-back : (i : ℕ) → isAdd (entryNo L i) ≡ true
+      → (rowOfEntry L i < rowsAfter n L) × (back n L (rowOfEntry L i) ≡ added i)
+  added-back i h = number-shown (added i) h
+
+  pub back-added : (r i : ℕ) → back n L r ≡ added i
+      → (r < rowsAfter n L) × (i < length L) × (isAdd (entryNo L i) ≡ true) × (rowOfEntry L i ≡ r)
+  back-added r i e = go (ltb r (rowsAfter n L)) refl
+    where
+      go : (t : Bool) → ltb r (rowsAfter n L) ≡ t
+          → (r < rowsAfter n L) × (i < length L) × (isAdd (entryNo L i) ≡ true) × (rowOfEntry L i ≡ r)
+      go true f =
+          let b : r < rowsAfter n L = ltb-true r (rowsAfter n L) f in
+          let w = back-number r b in
+          let a : isAdd (entryNo L i) ≡ true = ap (isShown n L) (sym e) ∙ w .0 in
+          (b, add-in L i a, a, ap (number L) (sym e) ∙ w .1)
+      go false f =
+          absurd
+          (let g : back n L r ≡ base n =
+          List·getD-eq-default (origins n L) (base n) (omega (arith, ltb-false r (rowsAfter n L) f, rows-counted .0)) in
+          let z : _≡_ {A = ℕ} 0 1 = cc in
+          omega arith)
+
+  -- the rows below the number of position s are those that stand before s
+  origin-split : (s : ℕ) (o : Origin) → isShown n L o ≡ true → standsBefore L s o ≡ ltb (number L o) (rowOf L s)
+  origin-split s (base t) h = go (ltb t s) refl
+    where
+      go : (u : Bool) → ltb t s ≡ u → u ≡ ltb (rowOf L t) (rowOf L s)
+      go true e =
+          sym (lt-ltb (rowOf L t) (rowOf L s) (row-passed L (U .pairs) t s (ltb-true t s e)
+          (not-true (struck t L) (and-r (ltb t n) (not (struck t L)) h))))
+      go false e = sym (le-ltb (rowOf L t) (rowOf L s) (rows-rise L (U .pairs) s t (ltb-false t s e)))
+  origin-split s (added i) h = go (leb (position (entryNo L i)) s) refl
+    where
+      go : (u : Bool) → leb (position (entryNo L i)) s ≡ u → u ≡ ltb (rowOfEntry L i) (rowOf L s)
+      go true e =
+          sym (lt-ltb (rowOfEntry L i) (rowOf L s) (omega (
+            arith,
+            entry-stands L (U .pairs) i h .1,
+            rows-rise L (U .pairs) (position (entryNo L i)) s (leb-true (position (entryNo L i)) s e),
+          )))
+      go false e =
+          sym (le-ltb (rowOfEntry L i) (rowOf L s) (omega (
+            arith,
+            entry-stands L (U .pairs) i h .0,
+            rows-up L (U .pairs) s (position (entryNo L i)) (leb-false (position (entryNo L i)) s e),
+          )))
+
+  pub row-splits : (s r : ℕ) → r < rowsAfter n L → standsBefore L s (back n L r) ≡ ltb r (rowOf L s)
+  row-splits s r h =
+      let w = back-number r h in
+      origin-split s (back n L r) (w .0) ∙ ap (λ (k : ℕ). ltb k (rowOf L s)) (w .1)
+
+  -- a struck row's number is that of the next shown row, or the row count if none follows: all below it stands before s, all from it on after s
+  pub struck-row-next : (s : ℕ) → s < n → struck s L ≡ true
+      → (rowOf L s ≤ rowsAfter n L)
+      × ((r : ℕ) → r < rowOf L s → standsBefore L s (back n L r) ≡ true)
+      × ((r : ℕ) → rowOf L s ≤ r → r < rowsAfter n L → standsAfter L s (back n L r) ≡ true)
+  struck-row-next s h e = (most, λ r k. row-splits s r (omega (arith, most)) ∙ lt-ltb r (rowOf L s) k, last)
+    where
+      most : rowOf L s ≤ rowsAfter n L
+      most = omega (arith, rows-rise L (U .pairs) s n (omega arith), origins-length L (U .pairs) n, rows-counted .0)
+
+      beyond : (o : Origin) → isShown n L o ≡ true → standsBefore L s o ≡ false → standsAfter L s o ≡ true
+      beyond (base t) w b = go (eqb s t) refl
+        where
+          go : (u : Bool) → eqb s t ≡ u → ltb s t ≡ true
+          go true g =
+              absurd (true≢false (sym e ∙ ap (λ (k : ℕ). struck k L) (eqb-true s t g)
+              ∙ not-true (struck t L) (and-r (ltb t n) (not (struck t L)) w)))
+          go false g = omega tests
+      beyond (added i) w b = omega tests
+
+      last : (r : ℕ) → rowOf L s ≤ r → r < rowsAfter n L → standsAfter L s (back n L r) ≡ true
+      last r k m = beyond (back n L r) (back-number r m .0) (row-splits s r m ∙ le-ltb r (rowOf L s) k)

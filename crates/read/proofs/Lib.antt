@@ -1,0 +1,9 @@
+pub mod Same
+pub mod Rows
+pub mod Ready
+pub mod Writing
+pub mod Going
+pub mod Answers
+pub mod Shows
+pub mod Viewing
+pub mod Unique

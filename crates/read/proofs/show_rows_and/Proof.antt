@@ -1,0 +1,52 @@
+-- One number more is written behind the run.
+-- Assumes nothing.
+use borrow.Author.Needs.{needs}
+use native.Mathlib.Omega.{arith}
+use Prim.Native.Nat.{_+_, _<_}
+use mathlib.Core.Path.{_≡_}
+use mathlib.Core.List.{[], _∷_, _++_}
+use lib.ListN.{length, length-append}
+use lib.Seq.{slice}
+use Rattle.read.proofs.Writing.{wrote-one}
+use Rattle.read.proofs.show_rows_and.Statement.{statement}
+use Rattle.read.proofs.show_rows_and.Tie as tie
+
+-- the run and the number together
+both : (c : tie.Start) → let a = c .args in
+    length (slice (a .s) (a .p) (a .base .now) ++ (a .v ∷ [])) ≡ length (slice (a .s) (a .p) (a .base .now)) + 1
+both c = let a = c .args in length-append (slice (a .s) (a .p) (a .base .now)) (a .v ∷ [])
+
+-- there is room behind the run
+behind : (c : tie.After-slice-known2) → c .before .before .show-rows .result < length (c .before .before .show-rows .last .1 .1 .1 .0)
+behind c =
+    let f = c .before .before .show-rows in
+    let b = c .before .before .before .before .before .before in
+    omega (arith, both b, f .ensures .end, f .kept .1 .1 .1 .0, b .pre .2)
+
+show-rows-requires : tie.Need-show-rows-requires
+show-rows-requires c κs =
+    let b = c .before .before .before in
+    (b .pre .0, b .pre .1, omega (arith, both b, b .pre .2))
+
+mul-out : tie.Need-mul-out
+mul-out c = let b = c .before .before .before .before .before .before in omega (arith, behind c, c .before .before .show-rows .kept .1 .1 .1 .0, b .good)
+
+slice-write-out : tie.Need-slice-write-out
+slice-write-out c = behind c
+
+add-result : tie.Need-add-result
+add-result c = omega (arith, behind c)
+
+same-length : tie.Need-same-length
+same-length c = search needs
+
+returns : tie.Need-returns
+returns c =
+    let f = c .before .before .show-rows in
+    let b = c .before .before .before .before .before .before in
+    let a = b .args in
+    wrote-one (slice (a .s) (a .p) (a .base .now)) (a .out .now) (f .last .1 .1 .1 .0) (a .o) (f .result) (a .v) (f .ensures) (b .pre .2)
+
+pub show-rows-and-spec : {M : Type 1} → statement M
+show-rows-and-spec =
+    tie.close (tie.spec show-rows-requires mul-out slice-write-out add-result same-length returns)
