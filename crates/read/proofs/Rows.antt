@@ -44,5 +44,6 @@ runs-length j s xs (at p (change i e) ∷ L) r =
         omega (arith, run-length s p xs (done e (getD xs p 0) ∷ runsFrom j (suc p) xs L) (r′ .0) k, f (r′ .2))
     by false h f g = omega (arith, g (r .1 h))
 
-pub rows-shown : (j : ℕ) (xs : List ℕ) (L : Layer) → Ready j (length xs) 0 L → length (readColumn j xs L) ≡ rowsAfter (length xs) L
+pub rows-shown : (j : ℕ) (xs : List ℕ) (L : Layer) → Ready j (length xs) 0 L
+    → length (readColumn j xs L) ≡ rowsAfter (length xs) L
 rows-shown j xs L r = omega (arith, ap length (same j xs L r), runs-length j 0 xs L r)
