@@ -17,9 +17,9 @@ use Rattle.model.specs.Form.{argsOk}
 use Rattle.model.specs.Refusals.{refusal, breaksForm}
 use Rattle.model.specs.Calls.{formAnswer, shownColumn, readAnswer}
 use Rattle.form.proofs.Accepted.{Accepted, accepted}
-use Rattle.read.specs.Runs.{Ready, Readable}
+use Rattle.read.specs.Runs.{Readable}
 use Rattle.read.proofs.Ready.{ready}
-use Rattle.read.proofs.Rows.{rows-shown}
+use Rattle.read.proofs.Rows.{rows-formed}
 
 -- a refusal of the form is passed on
 abbrev andThen : Answer → Answer → Answer
@@ -61,11 +61,8 @@ module _ (c m : ℕ) (raw xs : List ℕ) (j len : ℕ) where
     took : Accepted c (length xs) m raw k
     took = accepted c (length xs) m raw k e
 
-    all-ready : Ready j (length xs) 0 (layerOf c m raw)
-    all-ready = ready c (length xs) j (layerOf c m raw) (took .each) (took .pairs)
-
     pub counted : rows ≡ k
-    counted = rows-shown j xs (layerOf c m raw) all-ready ∙ sym (took .shown)
+    counted = rows-formed c j xs (layerOf c m raw) (took .each) (took .pairs) ∙ sym (took .shown)
 
     room-left : readAnswer c m raw xs j len ≡ roomAnswer
     room-left = after-form h ∙ ap (λ (a : Answer). andThen a roomAnswer) e
@@ -81,7 +78,7 @@ module _ (c m : ℕ) (raw xs : List ℕ) (j len : ℕ) where
     can-read l = record {
       held = took .held;
       column = h;
-      ready = all-ready;
+      ready = ready c (length xs) j (layerOf c m raw) (took .each) (took .pairs);
       room = omega (arith, took .shown);
     }
 

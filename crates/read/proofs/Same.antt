@@ -126,12 +126,13 @@ run j xs L (suc d) s l h =
     rw (drop-cons xs s 0 (omega arith), q .adds, q .strikes, q .changes x, slice-cons s (s + suc d) xs 0 (omega arith) h, e)
     (ap (λ (t : List ℕ). getD xs s 0 ∷ t) (run j xs L d (suc s) (subst (λ (n : ℕ). Later j n L) e l) (omega arith)))
 
-run-to : (j : ℕ) (xs : List ℕ) (L : Layer) (s p : ℕ) → s ≤ p → p ≤ length xs → Later j p L
-    → readColumnFrom j s (drop s xs) L ≡ slice s p xs ++ readColumnFrom j p (drop p xs) L
-run-to j xs L s p h k l =
+-- and then what the layer shows from p on
+run-then : (j : ℕ) (xs : List ℕ) (L : Layer) (s p : ℕ) (ys : List ℕ) → s ≤ p → p ≤ length xs → Later j p L
+    → readColumnFrom j p (drop p xs) L ≡ ys → slice s p xs ++ ys ≡ readColumnFrom j s (drop s xs) L
+run-then j xs L s p ys h k l q =
     let e : s + (p - s) ≡ p = omega arith in
-    subst (λ (t : ℕ). readColumnFrom j s (drop s xs) L ≡ slice s t xs ++ readColumnFrom j t (drop t xs) L) e
-    (run j xs L (p - s) s (subst (λ (t : ℕ). Later j t L) (sym e) l) (omega arith))
+    let r = run j xs L (p - s) s (subst (λ (t : ℕ). Later j t L) (sym e) l) (omega arith) in
+    sym (r ∙ ap (λ (t : ℕ). slice s t xs ++ readColumnFrom j t (drop t xs) L) e ∙ ap (λ (zs : List ℕ). slice s p xs ++ zs) q)
 
 bare : (j s : ℕ) (xs : List ℕ) → readColumnFrom j s xs [] ≡ xs
 bare j s [] = refl
@@ -165,26 +166,27 @@ unfolding runsFrom Ready Later
 same-from j s xs [] r = sym (bare j s (drop s xs))
 same-from j s xs (at p (add q) ∷ L) r =
     let l = ready-later j (length xs) p L (r .2) in
-    rw (same-from j p xs L (r .2))
-    (sym (run-to j xs (at p (add q) ∷ L) s p (r .0) (r .1) (λ w. omega arith, l) ∙ ap (λ (t : List ℕ). slice s p xs ++ t) (at-add j p L q (drop p xs))))
+    run-then j xs (at p (add q) ∷ L) s p (cell j q ∷ runsFrom j p xs L) (r .0) (r .1) (λ w. omega arith, l)
+    (at-add j p L q (drop p xs) ∙ rw (same-from j p xs L (r .2)))
 same-from j s xs (at p (strike k) ∷ L) r =
     let l = ready-later j (length xs) (suc p) L (r .2) in
-    rw (same-from j (suc p) xs L (r .2))
-    (sym (run-to j xs (at p (strike k) ∷ L) s p (r .0) (omega (arith, r .1)) (λ w. omega arith, later-less j p (suc p) L (omega arith) l)
-    ∙ ap (λ (t : List ℕ). slice s p xs ++ t) (at-strike j p L k xs (r .1) l)))
+    run-then j xs (at p (strike k) ∷ L) s p (runsFrom j (suc p) xs L) (r .0) (omega (arith, r .1))
+    (λ w. omega arith, later-less j p (suc p) L (omega arith) l)
+    (at-strike j p L k xs (r .1) l ∙ rw (same-from j (suc p) xs L (r .2)))
 same-from j s xs (at p (change i e) ∷ L) r =
     by (eqb j i) refl (λ z. same-from j (suc p) xs L z) (λ z. same-from j s xs L z)
   where
     by : (b : Bool) → eqb j i ≡ b
         → (Ready j (length xs) (suc p) L → runsFrom j (suc p) xs L ≡ readColumnFrom j (suc p) (drop (suc p) xs) L)
         → (Ready j (length xs) s L → runsFrom j s xs L ≡ readColumnFrom j s (drop s xs) L)
-        → cond b (slice s p xs ++ (done e (getD xs p 0) ∷ runsFrom j (suc p) xs L)) (runsFrom j s xs L) ≡ readColumnFrom j s (drop s xs) (at p (change i e) ∷ L)
+        → cond b (slice s p xs ++ (done e (getD xs p 0) ∷ runsFrom j (suc p) xs L)) (runsFrom j s xs L)
+        ≡ readColumnFrom j s (drop s xs) (at p (change i e) ∷ L)
     by true h f g =
         let r′ = r .0 h in
         let l = ready-later j (length xs) (suc p) L (r′ .2) in
-        rw (f (r′ .2))
-        (sym (run-to j xs (at p (change i e) ∷ L) s p (r′ .0) (omega (arith, r′ .1)) (λ w. omega arith, later-less j p (suc p) L (omega arith) l)
-        ∙ ap (λ (t : List ℕ). slice s p xs ++ t) (at-change j p L i e xs h (r′ .1) l)))
+        run-then j xs (at p (change i e) ∷ L) s p (done e (getD xs p 0) ∷ runsFrom j (suc p) xs L) (r′ .0) (omega (arith, r′ .1))
+        (λ w. omega arith, later-less j p (suc p) L (omega arith) l)
+        (at-change j p L i e xs h (r′ .1) l ∙ rw (f (r′ .2)))
     by false h f g = g (r .1 h) ∙ sym (without j (at p (change i e)) L s (drop s xs) (λ q z. silent-other j q p i e h))
 
 pub same : (j : ℕ) (xs : List ℕ) (L : Layer) → Ready j (length xs) 0 L → runsFrom j 0 xs L ≡ readColumn j xs L

@@ -18,6 +18,8 @@ use Rattle.read.proofs.answer.Kinds as answer-kinds
 use Rattle.read.proofs.answer.Reads as answer-contract
 use Rattle.read.proofs.read.Kinds as read-kinds
 use Rattle.read.proofs.read.Reads as read-contract
+use Rattle.read.proofs.read_part.Kinds as core-kinds
+use Rattle.read.proofs.read_part.Reads as core-contract
 use Rattle.read.proofs.view.Kinds as view-kinds
 use Rattle.read.proofs.view.Reads as view-contract
 use Rattle.read.proofs.view_part.Kinds as part-kinds
@@ -39,6 +41,12 @@ module _ (κs : Lfts 3) (a : Dens κs read-kinds.ps) (s s′ : AtExit (endedOf 3
       let e : r ≡ r′ = p .0 ∙ sym (q .0) in
       let shown = shownColumn (a .0) (a .1 .0) (now (a .1 .1 .0)) (now (a .1 .1 .1 .0)) (a .1 .1 .1 .1 .0) in
       (e, p .1 ∙ ap (λ (t : Answer). written t shown (now (a .1 .1 .1 .1 .1 .0))) e ∙ sym (q .1))
+
+-- of the reader behind it
+module _ (κs : Lfts 3) (a : Dens κs core-kinds.ps) (s s′ : AtExit (endedOf 3 core-kinds.ps core-kinds.r) κs) where
+  pub read-part-unique : (r r′ : ℕ) → core-contract.Post κs a r s → core-contract.Post κs a r′ s′
+      → (r ≡ r′) × (now (s .1 .1 .1 .1 .1 .0) ≡ now (s′ .1 .1 .1 .1 .1 .0))
+  read-part-unique r r′ p q = (p .0 ∙ sym (q .0), p .1 ∙ sym (q .1))
 
 -- of the view: its numbers, and where they lie
 same-place : (base out : RefT (List ℕ)) (p : Part) (r r′ : RefT (List ℕ)) → InPlace base out p r → InPlace base out p r′
