@@ -1,67 +1,34 @@
 -- Combining: R with W's strikes, changes and adds redone by key as edits keeps form and fits, and reads as R and then W in turn.
 -- Assumes nothing.
 use mathlib.Core.Path.{_≡_, refl, sym, ap, _∙_}
-use mathlib.Core.Logic.{_⊎_, inl, inr, ⊎-elim}
-use mathlib.Core.Bool.{Bool, true, false, _&&_, true≢false}
-use mathlib.Core.List.{
-  List,
-  [],
-  _∷_,
-  map,
-  List·Memᴰ as Mem,
-  List·Memᴰ·head as here,
-  List·Memᴰ·tail as next,
-  List·Memᴰ·not-nil as not-nil,
-}
-use Prim.Native.Nat.{ℕ, zero, suc, _+_, _≤_, _<_}
-use native.Mathlib.Omega.{arith}
+use mathlib.Core.Logic.{⊎-elim}
+use mathlib.Core.Bool.{true, _&&_, true≢false}
+use mathlib.Core.List.{List, [], _∷_, List·Memᴰ as Mem, List·Memᴰ·head as here, List·Memᴰ·tail as next}
+use Prim.Native.Nat.{ℕ, _≤_, _<_}
 use lib.ListN.{length, getD}
 use lib.Dec.{leb, ltb, eqb}
 use borrow.Author.Tests.{ltb-true, leb-true, eqb-true}
-use Rattle.order.specs.Lists.{count, inTurn}
+use Rattle.order.specs.Lists.{inTurn}
 use Rattle.order.proofs.Tests.{tests, and-l, and-r}
 use Rattle.order.proofs.Members.{insert-mem, mem-map, map-mem}
 use Rattle.order.proofs.Pairs.{AllPairs}
-use Rattle.order.proofs.Ascending.{AscFrom, At, below, at-mem, at-cast, at-same, mem-at}
+use Rattle.order.proofs.Ascending.{AscFrom, At, at-mem, at-cast, at-same, mem-at}
 use Rattle.order.proofs.Edited.{turn-keeps}
 use Rattle.model.specs.Row.{Row, Table, key, keys}
 use Rattle.model.specs.Cell.{CellEdit}
 use Rattle.model.specs.Layer.{Deed, add, strike, change, Edit, at, Layer, rowsAfter, struck}
-use Rattle.model.specs.Form.{sound}
-use Rattle.model.specs.Read.{read, keysAfter}
+use Rattle.model.specs.Read.{read}
 use Rattle.model.specs.Edits.{deedBefore, before, addRow, strikeRow, changeRowNo, rowOfKey}
 use Rattle.model.specs.Meaning.{keyOf}
-use Rattle.model.specs.Redo.{
-  doStrike,
-  doChange,
-  doAdd,
-  redo,
-  strikeKey,
-  putKey,
-  changeKey,
-  rowBefore,
-  addKey,
-  onTable,
-  onLayer,
-  combine,
-}
+use Rattle.model.specs.Redo.{doStrike, doChange, doAdd, redo, strikeKey, putKey, changeKey, rowBefore, addKey, onTable, onLayer, combine}
 use Rattle.model.proofs.Layer.{of-struck, struck-of}
 use Rattle.model.proofs.Edits.{level}
-use Rattle.model.proofs.Fit.{Fit, Good, key-kept, key-of}
+use Rattle.model.proofs.Fit.{Good, key-kept, key-of}
 use Rattle.model.proofs.Count.{read-ascends, read-length}
 use Rattle.model.proofs.Redo.{redoStrikes, redoChanges, redoAdds, strike-mem, mem-strike, putKey-key, read-redo}
 use Rattle.model.proofs.Column.{keys-read}
 use Rattle.model.proofs.Meaning.{one-position, changed-kept}
-use Rattle.model.proofs.Edited.{
-  Reads,
-  add-good,
-  add-reads,
-  strike-good,
-  strike-reads,
-  change-good,
-  change-reads,
-  row-of-key,
-}
+use Rattle.model.proofs.Edited.{Reads, add-good, add-reads, strike-good, strike-reads, change-good, change-reads, row-of-key}
 
 -- a key is shown, a key is not shown
 abbrev Present : ℕ → Table → Type 0
@@ -75,7 +42,7 @@ module _ (c : ℕ) (T : Table) (a : AscFrom key 0 T) (L : Layer) (M : Table) (S 
   present : (k : ℕ) → Present k M → (q : Row) × At q (rowOfKey (keys T) L k) 0 (read T L) × (key q ≡ k)
   present k w =
       let z = mem-at 0 (read T L) (w .0) (rw (S .reads) (w .1)) in
-      (w .0, at-cast (sym (row-of-key T L a (S .good .fit) (z .0) (w .0) (z .1)) ∙ ap (rowOfKey (keys T) L) (w .2)) (z .1), w .2)
+      (w .0, at-cast (sym (row-of-key c T L a (S .good) (z .0) (w .0) (z .1)) ∙ ap (rowOfKey (keys T) L) (w .2)) (z .1), w .2)
 
   pub strike-by-key : (k : ℕ) → Present k M → Reads c T (strikeRow (keys T) (rowOfKey (keys T) L k) L) (strikeKey k M)
   strike-by-key k w =
@@ -91,8 +58,8 @@ module _ (c : ℕ) (T : Table) (a : AscFrom key 0 T) (L : Layer) (M : Table) (S 
   change-by-key k j e past within w =
       let z = present k w in
       record {
-        good = change-good c T L a (S .good) (rowOfKey (keys T) L k) (z .0) (z .1) j e past within;
-        reads = change-reads c T L a (S .good) (rowOfKey (keys T) L k) (z .0) (z .1) j e past within
+        good = change-good c T L a (S .good) j e past within (rowOfKey (keys T) L k) (z .0) (z .1);
+        reads = change-reads c T L a (S .good) j e past within (rowOfKey (keys T) L k) (z .0) (z .1)
             ∙ (ap (λ (l : ℕ). changeKey l j e (read T L)) (z .2) ∙ ap (changeKey k j e) (S .reads));
       }
 
