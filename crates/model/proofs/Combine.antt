@@ -1,6 +1,6 @@
 -- Combining: R with W's strikes, changes and adds redone by key as edits keeps form and fits, and reads as R and then W in turn.
 -- Assumes nothing.
-use mathlib.Core.Path.{_≡_, refl, sym, ap, _∙_}
+use mathlib.Core.Path.{_≡_, refl, sym, ap, _∙_, subst}
 use mathlib.Core.Logic.{⊎-elim}
 use mathlib.Core.Bool.{true, _&&_, true≢false}
 use mathlib.Core.List.{List, [], _∷_, List·Memᴰ as Mem, List·Memᴰ·head as here, List·Memᴰ·tail as next}
@@ -9,7 +9,7 @@ use lib.ListN.{length, getD}
 use lib.Dec.{leb, ltb, eqb}
 use borrow.Author.Tests.{ltb-true, leb-true, eqb-true}
 use Rattle.order.specs.Lists.{inTurn}
-use Rattle.order.proofs.Tests.{tests, and-l, and-r}
+use Rattle.order.proofs.Tests.{tests, and-l, and-r, and-of}
 use Rattle.order.proofs.Members.{insert-mem, mem-map, map-mem}
 use Rattle.order.proofs.Pairs.{AllPairs}
 use Rattle.order.proofs.Ascending.{AscFrom, At, at-mem, at-cast, at-same, mem-at}
@@ -17,13 +17,16 @@ use Rattle.order.proofs.Edited.{turn-keeps}
 use Rattle.model.specs.Row.{Row, Table, key, keys}
 use Rattle.model.specs.Cell.{CellEdit}
 use Rattle.model.specs.Layer.{Deed, add, strike, change, Edit, at, Layer, rowsAfter, struck}
-use Rattle.model.specs.Read.{read}
+use Rattle.model.specs.Limits.{mostRows}
+use Rattle.model.specs.Form.{inOrder, keepsForm}
+use Rattle.model.specs.Fit.{fits}
+use Rattle.model.specs.Read.{read, keysAfter}
 use Rattle.model.specs.Edits.{deedBefore, before, addRow, strikeRow, changeRowNo, rowOfKey}
 use Rattle.model.specs.Meaning.{keyOf}
 use Rattle.model.specs.Redo.{doStrike, doChange, doAdd, redo, strikeKey, putKey, changeKey, rowBefore, addKey, onTable, onLayer, combine}
 use Rattle.model.proofs.Layer.{of-struck, struck-of}
 use Rattle.model.proofs.Edits.{level}
-use Rattle.model.proofs.Fit.{Good, key-kept, key-of}
+use Rattle.model.proofs.Fit.{Good, key-kept, key-of, good-of, good-form, good-fits}
 use Rattle.model.proofs.Count.{read-ascends, read-length}
 use Rattle.model.proofs.Redo.{redoStrikes, redoChanges, redoAdds, strike-mem, mem-strike, putKey-key, read-redo}
 use Rattle.model.proofs.Column.{keys-read}
@@ -280,7 +283,9 @@ module _ (c : ℕ) (T : Table) (R W : Layer) (a : AscFrom key 0 T) (GR : Good c 
 
   combined : Reads c T (combine (keys T) R W) (redo onTable (keys (read T R)) W (read T R))
   unfolding combine struckLayer struckTable changedLayer changedTable
-  combined = rw (keys-read T R (key-kept T R (GR .fit))) adds-done
+  combined =
+      subst (λ (K : List ℕ). Reads c T (redo (onLayer (keys T)) K W R) (redo onTable (keys (read T R)) W (read T R)))
+      (sym (keys-read T R (key-kept T R (GR .fit)))) adds-done
 
   -- the combined layer keeps form and fits
   pub combine-good : Good c T (combine (keys T) R W)
@@ -296,3 +301,19 @@ module _ (c : ℕ) (T : Table) (R W : Layer) (a : AscFrom key 0 T) (GR : Good c 
       sym (read-length T (combine (keys T) R W) (combine-good .fit))
       ∙ (ap length combine-reads
       ∙ (read-length (read T R) W (GW .fit) ∙ ap (λ (n : ℕ). rowsAfter n W) (read-length T R (GR .fit))))
+
+  -- and passes the tests of form and fit, where the rows after W are at most 4,096
+  pub combine-form : leb (rowsAfter (rowsAfter (length T) R) W) mostRows ≡ true → keepsForm c (length T) (combine (keys T) R W) ≡ true
+  combine-form h =
+      and-of (inOrder c (length T) (combine (keys T) R W)) (leb (rowsAfter (length T) (combine (keys T) R W)) mostRows)
+      (good-form c T (combine (keys T) R W) a combine-good) (ap (λ (n : ℕ). leb n mostRows) combine-rows ∙ h)
+
+  pub combine-fits : fits (keys T) (combine (keys T) R W) ≡ true
+  combine-fits = good-fits c T (combine (keys T) R W) a combine-good
+
+-- the tests of the upper layer, over the rows and the keys after the lower one, say that it is good
+pub upper-good : (c : ℕ) (T : Table) (R W : Layer) → AscFrom key 0 T → Good c T R → inOrder c (rowsAfter (length T) R) W ≡ true
+    → fits (keysAfter (keys T) R) W ≡ true → Good c (read T R) W
+upper-good c T R W a GR fm ft =
+    good-of c (read T R) W (read-ascends T R a (GR .fit)) (ap (λ (n : ℕ). inOrder c n W) (read-length T R (GR .fit)) ∙ fm)
+    (ap (λ (K : List ℕ). fits K W) (sym (keys-read T R (key-kept T R (GR .fit)))) ∙ ft)

@@ -34,7 +34,7 @@ use Rattle.model.proofs.Fit.{Fit, Good, key-kept, key-of, keys-length, 
 use Rattle.model.proofs.Count.{read-ascends, read-length}
 use Rattle.model.proofs.Redo.{strike-mem, mem-strike, strike-asc, change-asc, add-asc}
 use Rattle.model.proofs.Column.{keys-read}
-use Rattle.model.proofs.Origin.{RowOrigin, back-row, base-at, added-at}
+use Rattle.model.proofs.Origin.{addedRow, RowOrigin, back-row, base-at, added-at}
 
 -- an edit entered, and the others
 abbrev kind : Edit → ℕ
@@ -251,6 +251,13 @@ module _ (c : ℕ) (T : Table) (L : Layer) (a : AscFrom key 0 T) (G : Good c T L
   module _ (r : Row) (len : length r ≡ c) (free : (q : Row) → Mem q (read T L) → key q ≡ key r → ⊥) where
     add-sits : count (below key (key r)) T ≡ keysBelow (key r) (keys T)
     add-sits = sym (below-keys (key r) T)
+
+    -- its entry's position, as every add's, is the number of base keys below its own, struck rows counted
+    pub add-position : (p : ℕ) (q : Row) → Mem (at p (add q)) (addRow (keys T) r L) → count (below key (key q)) T ≡ p
+    unfolding addRow
+    add-position p q m =
+        ⊎-elim (λ g. omega (arith, add-sits, ap position g, ap (λ (d : Edit). count (below key (key (addedRow d))) T) g))
+        (λ n. G .fit .sits p q n) (insert-mem before _ L (at p (add q)) m)
 
     -- a base row of the same key is struck
     add-fresh : (i : ℕ) (q : Row) → At q i 0 T → key q ≡ key r → struck i L ≡ true
