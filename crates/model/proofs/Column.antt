@@ -89,7 +89,8 @@ key-cell s (at p (change i e) ∷ L) r kk = go (λ q. key-cell s L q (λ p′ i�
     go ih false = ih r
 
 -- a column where every base row's cell reads as the cell alone does
-by-cell : (j : ℕ) (T : Table) (L : Layer) → ((p : ℕ) (r : Row) → At r p 0 T → cell j (changed p L r) ≡ changedCell p j L (cell j r))
+by-cell : (j : ℕ) (T : Table) (L : Layer)
+    → ((p : ℕ) (r : Row) → At r p 0 T → cell j (changed p L r) ≡ changedCell p j L (cell j r))
     → column j (read T L) ≡ readColumn j (column j T) L
 by-cell j T L h =
     through-map (cell j) (λ p. addsAt p L) (λ p r. unless (struck p L) (changed p L r)) 0 T

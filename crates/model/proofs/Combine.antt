@@ -2,18 +2,19 @@
 -- Assumes nothing.
 use mathlib.Core.Path.{_≡_, refl, sym, ap, _∙_, subst}
 use mathlib.Core.Logic.{⊎-elim}
-use mathlib.Core.Bool.{true, _&&_, true≢false}
+use mathlib.Core.Bool.{Bool, true, false, cond, _&&_, true≢false}
 use mathlib.Core.List.{List, [], _∷_, List·Memᴰ as Mem, List·Memᴰ·head as here, List·Memᴰ·tail as next}
 use Prim.Native.Nat.{ℕ, _≤_, _<_}
 use lib.ListN.{length, getD}
 use lib.Dec.{leb, ltb, eqb}
 use borrow.Author.Tests.{ltb-true, leb-true, eqb-true}
-use Rattle.order.specs.Lists.{inTurn}
+use Rattle.order.specs.Lists.{gather, inTurn}
 use Rattle.order.proofs.Tests.{tests, and-l, and-r, and-of}
 use Rattle.order.proofs.Members.{insert-mem, mem-map, map-mem}
 use Rattle.order.proofs.Pairs.{AllPairs}
 use Rattle.order.proofs.Ascending.{AscFrom, At, at-mem, at-cast, at-same, mem-at}
 use Rattle.order.proofs.Edited.{turn-keeps}
+use Rattle.order.proofs.Gather.{turn-gather}
 use Rattle.model.specs.Row.{Row, Table, key, keys}
 use Rattle.model.specs.Cell.{CellEdit}
 use Rattle.model.specs.Layer.{Deed, add, strike, change, Edit, at, Layer, rowsAfter, struck}
@@ -22,8 +23,21 @@ use Rattle.model.specs.Form.{inOrder, keepsForm}
 use Rattle.model.specs.Fit.{fits}
 use Rattle.model.specs.Read.{read, keysAfter}
 use Rattle.model.specs.Edits.{deedBefore, before, addRow, strikeRow, changeRowNo, rowOfKey}
-use Rattle.model.specs.Meaning.{keyOf}
-use Rattle.model.specs.Redo.{doStrike, doChange, doAdd, redo, strikeKey, putKey, changeKey, rowBefore, addKey, onTable, onLayer, combine}
+use Rattle.model.specs.Meaning.{keyOf, concerning, meaning}
+use Rattle.model.specs.Redo.{
+  doStrike,
+  doChange,
+  doAdd,
+  redo,
+  strikeKey,
+  putKey,
+  changeKey,
+  rowBefore,
+  addKey,
+  onTable,
+  onLayer,
+  combine,
+}
 use Rattle.model.proofs.Layer.{of-struck, struck-of}
 use Rattle.model.proofs.Edits.{level}
 use Rattle.model.proofs.Fit.{Good, key-kept, key-of, good-of, good-form, good-fits}
@@ -31,7 +45,28 @@ use Rattle.model.proofs.Count.{read-ascends, read-length}
 use Rattle.model.proofs.Redo.{redoStrikes, redoChanges, redoAdds, strike-mem, mem-strike, putKey-key, read-redo}
 use Rattle.model.proofs.Column.{keys-read}
 use Rattle.model.proofs.Meaning.{one-position, changed-kept}
-use Rattle.model.proofs.Edited.{Reads, add-good, add-reads, strike-good, strike-reads, change-good, change-reads, row-of-key}
+use Rattle.model.proofs.Joined.{
+  strikeDeeds,
+  changeDeeds,
+  addDeeds,
+  strikeTo,
+  changeTo,
+  addTo,
+  joined,
+  strike-means,
+  change-means,
+  add-means,
+}
+use Rattle.model.proofs.Edited.{
+  Reads,
+  add-good,
+  add-reads,
+  strike-good,
+  strike-reads,
+  change-good,
+  change-reads,
+  row-of-key,
+}
 
 -- a key is shown, a key is not shown
 abbrev Present : ℕ → Table → Type 0
@@ -40,12 +75,12 @@ Present k M = (q : Row) × Mem q M × (key q ≡ k)
 abbrev Absent : ℕ → Table → Type 0
 Absent k M = (q : Row) → Mem q M → key q ≡ k → ⊥
 
--- An edit by key on a layer reads as the same edit by key on the table.
+-- An edit by key on a layer reads as the same edit by key on the table, and does the same to the deeds for a key.
 module _ (c : ℕ) (T : Table) (a : AscFrom key 0 T) (L : Layer) (M : Table) (S : Reads c T L M) where
   present : (k : ℕ) → Present k M → (q : Row) × At q (rowOfKey (keys T) L k) 0 (read T L) × (key q ≡ k)
   present k w =
       let z = mem-at 0 (read T L) (w .0) (rw (S .reads) (w .1)) in
-      (w .0, at-cast (sym (row-of-key c T L a (S .good) (z .0) (w .0) (z .1)) ∙ ap (rowOfKey (keys T) L) (w .2)) (z .1), w .2)
+      (w .0, at-cast (sym (row-of-key T L a (S .good .fit) (z .0) (w .0) (z .1)) ∙ ap (rowOfKey (keys T) L) (w .2)) (z .1), w .2)
 
   pub strike-by-key : (k : ℕ) → Present k M → Reads c T (strikeRow (keys T) (rowOfKey (keys T) L k) L) (strikeKey k M)
   strike-by-key k w =
@@ -56,13 +91,28 @@ module _ (c : ℕ) (T : Table) (a : AscFrom key 0 T) (L : Layer) (M : Table) (S 
             ∙ (ap (λ (l : ℕ). strikeKey l (read T L)) (z .2) ∙ ap (strikeKey k) (S .reads));
       }
 
+  strike-by-key-means : (l k : ℕ) → Present l M → meaning (keys T) (strikeRow (keys T) (rowOfKey (keys T) L l) L) k
+      ≡ cond (eqb l k) (strikeDeeds l (meaning (keys T) L k)) (meaning (keys T) L k)
+  strike-by-key-means l k w =
+      let z = present l w in
+      strike-means T L a (S .good .fit) k (rowOfKey (keys T) L l) (z .0) (z .1)
+      ∙ ap (λ (t : ℕ). cond (eqb t k) (strikeDeeds t (meaning (keys T) L k)) (meaning (keys T) L k)) (z .2)
+
+  change-by-key-means : (l k j : ℕ) (e : CellEdit) → 1 ≤ j → Present l M
+      → meaning (keys T) (changeRowNo (keys T) (rowOfKey (keys T) L l) j e L) k
+      ≡ cond (eqb l k) (changeDeeds j e (meaning (keys T) L k)) (meaning (keys T) L k)
+  change-by-key-means l k j e past w =
+      let z = present l w in
+      change-means T L a (S .good .fit) k (rowOfKey (keys T) L l) (z .0) (z .1) j e past
+      ∙ ap (λ (t : ℕ). cond (eqb t k) (changeDeeds j e (meaning (keys T) L k)) (meaning (keys T) L k)) (z .2)
+
   pub change-by-key : (k j : ℕ) (e : CellEdit) → 1 ≤ j → j < c → Present k M
       → Reads c T (changeRowNo (keys T) (rowOfKey (keys T) L k) j e L) (changeKey k j e M)
   change-by-key k j e past within w =
       let z = present k w in
       record {
-        good = change-good c T L a (S .good) j e past within (rowOfKey (keys T) L k) (z .0) (z .1);
-        reads = change-reads c T L a (S .good) j e past within (rowOfKey (keys T) L k) (z .0) (z .1)
+        good = change-good c T L a (S .good) (rowOfKey (keys T) L k) (z .0) (z .1) j e past within;
+        reads = change-reads c T L a (S .good) (rowOfKey (keys T) L k) (z .0) (z .1) j e past within
             ∙ (ap (λ (l : ℕ). changeKey l j e (read T L)) (z .2) ∙ ap (changeKey k j e) (S .reads));
       }
 
@@ -74,16 +124,34 @@ module _ (c : ℕ) (T : Table) (a : AscFrom key 0 T) (L : Layer) (M : Table) (S 
         reads = add-reads c T L a (S .good) r len free ∙ ap (addKey r) (S .reads);
       }
 
+-- The layer L is good, reads as the table M, and means the deeds ds for the key k.
+pub record Joins (c : ℕ) (T : Table) (k : ℕ) (L : Layer) (M : Table) (ds : List Deed) : Type 0 where
+  pub reads : Reads c T L M
+  pub means : meaning (keys T) L k ≡ ds
+
+-- a deed done to the deeds for a key, where it concerns the key
+done-if : (f : Deed → List Deed → List Deed) (t : Bool) (d : Deed) (ds : List Deed)
+    → cond t (f d ds) ds ≡ inTurn f (cond t (d ∷ []) []) ds
+done-if f true d ds = refl
+done-if f false d ds = refl
+
+-- a deed that does nothing
+done-not : (f : Deed → List Deed → List Deed) (t : Bool) (d : Deed) (ds : List Deed) → f d ds ≡ ds
+    → ds ≡ inTurn f (cond t (d ∷ []) []) ds
+done-not f true d ds h = sym h
+done-not f false d ds h = refl
+
 -- Edits in turn, where each may be done and leaves those after it so.
-in-turn : (c : ℕ) (T : Table) (f : Edit → Layer → Layer) (g : Edit → Table → Table) (May : Edit → Table → Type 0) (Z : Layer)
-    → ((e : Edit) (L : Layer) (M : Table) → Mem e Z → Reads c T L M → May e M → Reads c T (f e L) (g e M))
+in-turn : (c : ℕ) (T : Table) (k : ℕ) (f : Edit → Layer → Layer) (g : Edit → Table → Table) (h : Edit → List Deed → List Deed)
+    (May : Edit → Table → Type 0) (Z : Layer)
+    → ((e : Edit) (L : Layer) (M : Table) (ds : List Deed) → Mem e Z → Joins c T k L M ds → May e M → Joins c T k (f e L) (g e M) (h e ds))
     → ((d e : Edit) (M : Table) → Mem d Z → Mem e Z → before d e ≡ true → May e M → May e (g d M))
-    → AllPairs before Z → (L : Layer) (M : Table) → Reads c T L M → ((e : Edit) → Mem e Z → May e M)
-    → Reads c T (inTurn f Z L) (inTurn g Z M)
-in-turn c T f g May [] step keep o L M S h = S
-in-turn c T f g May (x ∷ Z) step keep o L M S h =
-    in-turn c T f g May Z (λ e L′ M′ m. step e L′ M′ (next m)) (λ d e M′ m n. keep d e M′ (next m) (next n)) (o .1) (f x L) (g x M)
-    (step x L M (here refl) S (h x (here refl))) (λ e m. keep x e M (here refl) (next m) (o .0 e m) (h e (next m)))
+    → AllPairs before Z → (L : Layer) (M : Table) (ds : List Deed) → Joins c T k L M ds → ((e : Edit) → Mem e Z → May e M)
+    → Joins c T k (inTurn f Z L) (inTurn g Z M) (inTurn h Z ds)
+in-turn c T k f g h May [] step keep o L M ds S may = S
+in-turn c T k f g h May (x ∷ Z) step keep o L M ds S may =
+    in-turn c T k f g h May Z (λ e L′ M′ ds′ m. step e L′ M′ ds′ (next m)) (λ d e M′ m n. keep d e M′ (next m) (next n)) (o .1) (f x L) (g x M) (h x ds)
+    (step x L M ds (here refl) S (may x (here refl))) (λ e m. keep x e M (here refl) (next m) (o .0 e m) (may e (next m)))
 
 -- what keeps a key from being shown
 strike-absent : (k l : ℕ) (M : Table) → Absent k M → Absent k (strikeKey l M)
@@ -131,12 +199,13 @@ CanAdd (at s (strike k)) M = Unit {0}
 CanAdd (at s (change j e)) M = Unit {0}
 
 -- W over what is read through R, both good.
-module _ (c : ℕ) (T : Table) (R W : Layer) (a : AscFrom key 0 T) (GR : Good c T R) (GW : Good c (read T R) W) where
+module _ (c : ℕ) (T : Table) (R W : Layer) (a : AscFrom key 0 T) (GR : Good c T R) (GW : Good c (read T R) W) (k : ℕ) where
   ascends : AscFrom key 0 (read T R)
   ascends = read-ascends T R a (GR .fit)
 
   -- two edits of W that concern one key stand at one position, so in the order of their deeds
-  one-key : (p s : ℕ) (d e : Deed) → Mem (at p d) W → Mem (at s e) W → keyOf (keys (read T R)) (at p d) ≡ keyOf (keys (read T R)) (at s e)
+  one-key : (p s : ℕ) (d e : Deed) → Mem (at p d) W → Mem (at s e) W
+      → keyOf (keys (read T R)) (at p d) ≡ keyOf (keys (read T R)) (at s e)
       → before (at p d) (at s e) ≡ true → deedBefore d e ≡ true
   one-key p s d e m n k h = level p s d e (one-position (read T R) W ascends (GW .fit) p s d e m n k) h
 
@@ -146,17 +215,28 @@ module _ (c : ℕ) (T : Table) (R W : Layer) (a : AscFrom key 0 T) (GR : Good c 
   struckTable : Table
   struckTable = redoStrikes W (read T R)
 
-  strikes-done : Reads c T struckLayer struckTable
-  unfolding struckLayer struckTable
+  -- the deeds for k, once the strikes are done, the changes, the adds
+  concerns : Edit → List Deed
+  concerns = concerning (keys (read T R)) k
+
+  struckDeeds : List Deed
+  struckDeeds = inTurn (λ e. inTurn strikeTo (concerns e)) W (meaning (keys T) R k)
+
+  strikes-done : Joins c T k struckLayer struckTable struckDeeds
+  unfolding struckLayer struckTable struckDeeds concerns
   strikes-done =
-      in-turn c T (doStrike (onLayer (keys T))) (doStrike onTable) CanStrike W step keep (GW .fit .sorted) R (read T R)
-      (record { good = GR; reads = refl }) can
+      in-turn c T k (doStrike (onLayer (keys T))) (doStrike onTable) (λ e. inTurn strikeTo (concerning (keys (read T R)) k e)) CanStrike W step keep
+      (GW .fit .sorted) R (read T R) (meaning (keys T) R k) (record { reads = record { good = GR; reads = refl }; means = refl }) can
     where
-      step : (e : Edit) (L : Layer) (M : Table) → Mem e W → Reads c T L M → CanStrike e M
-          → Reads c T (doStrike (onLayer (keys T)) e L) (doStrike onTable e M)
-      step (at s (add r)) L M m S w = S
-      step (at s (strike k)) L M m S w = strike-by-key c T a L M S k w
-      step (at s (change j e)) L M m S w = S
+      step : (e : Edit) (L : Layer) (M : Table) (ds : List Deed) → Mem e W → Joins c T k L M ds → CanStrike e M
+          → Joins c T k (doStrike (onLayer (keys T)) e L) (doStrike onTable e M) (inTurn strikeTo (concerning (keys (read T R)) k e) ds)
+      step (at s (add r)) L M ds m S w = record { reads = S .reads; means = S .means ∙ done-not strikeTo (eqb (key r) k) (add r) ds refl }
+      step (at s (strike l)) L M ds m S w = record {
+        reads = strike-by-key c T a L M (S .reads) l w;
+        means = strike-by-key-means c T a L M (S .reads) l k w
+            ∙ (ap (λ (x : List Deed). cond (eqb l k) (strikeDeeds l x) x) (S .means) ∙ done-if strikeTo (eqb l k) (strike l) ds);
+      }
+      step (at s (change j e)) L M ds m S w = record { reads = S .reads; means = S .means ∙ done-not strikeTo (eqb (getD (keys (read T R)) s 0) k) (change j e) ds refl }
 
       keep : (d e : Edit) (M : Table) → Mem d W → Mem e W → before d e ≡ true → CanStrike e M → CanStrike e (doStrike onTable d M)
       keep d (at s (add r)) M m n h w = tt
@@ -203,23 +283,33 @@ module _ (c : ℕ) (T : Table) (R W : Layer) (a : AscFrom key 0 T) (GR : Good c 
   changedTable : Table
   changedTable = redoChanges (keys (read T R)) W struckTable
 
-  changes-done : Reads c T changedLayer changedTable
-  unfolding changedLayer changedTable
+  changedDeeds : List Deed
+  changedDeeds = inTurn (λ e. inTurn changeTo (concerns e)) W struckDeeds
+
+  changes-done : Joins c T k changedLayer changedTable changedDeeds
+  unfolding changedLayer changedTable changedDeeds concerns
   changes-done =
-      in-turn c T (doChange (onLayer (keys T)) K) (doChange onTable K) (CanChange K) W step keep (GW .fit .sorted) struckLayer struckTable
-      strikes-done can
+      in-turn c T k (doChange (onLayer (keys T)) K) (doChange onTable K) (λ e. inTurn changeTo (concerning K k e)) (CanChange K) W step keep
+      (GW .fit .sorted) struckLayer struckTable struckDeeds strikes-done can
     where
       K : List ℕ
       K = keys (read T R)
 
-      step : (e : Edit) (L : Layer) (M : Table) → Mem e W → Reads c T L M → CanChange K e M
-          → Reads c T (doChange (onLayer (keys T)) K e L) (doChange onTable K e M)
-      step (at s (add r)) L M m S w = S
-      step (at s (strike k)) L M m S w = S
-      step (at s (change j e)) L M m S w =
-          let h = columns s j e m in change-by-key c T a L M S (getD K s 0) j e (h .0) (h .1) w
+      step : (e : Edit) (L : Layer) (M : Table) (ds : List Deed) → Mem e W → Joins c T k L M ds → CanChange K e M
+          → Joins c T k (doChange (onLayer (keys T)) K e L) (doChange onTable K e M) (inTurn changeTo (concerning K k e) ds)
+      step (at s (add r)) L M ds m S w = record { reads = S .reads; means = S .means ∙ done-not changeTo (eqb (key r) k) (add r) ds refl }
+      step (at s (strike l)) L M ds m S w = record { reads = S .reads; means = S .means ∙ done-not changeTo (eqb l k) (strike l) ds refl }
+      step (at s (change j e)) L M ds m S w =
+          let h = columns s j e m in
+          record {
+            reads = change-by-key c T a L M (S .reads) (getD K s 0) j e (h .0) (h .1) w;
+            means = change-by-key-means c T a L M (S .reads) (getD K s 0) k j e (h .0) w
+                ∙ (ap (λ (x : List Deed). cond (eqb (getD K s 0) k) (changeDeeds j e x) x) (S .means)
+                ∙ done-if changeTo (eqb (getD K s 0) k) (change j e) ds);
+          }
 
-      keep : (d e : Edit) (M : Table) → Mem d W → Mem e W → before d e ≡ true → CanChange K e M → CanChange K e (doChange onTable K d M)
+      keep : (d e : Edit) (M : Table) → Mem d W → Mem e W → before d e ≡ true → CanChange K e M
+          → CanChange K e (doChange onTable K d M)
       keep d (at s (add r)) M m n h w = tt
       keep d (at s (strike k)) M m n h w = tt
       keep (at p (add r)) (at s (change j e)) M m n h w = w
@@ -253,17 +343,23 @@ module _ (c : ℕ) (T : Table) (R W : Layer) (a : AscFrom key 0 T) (GR : Good c 
       each (at p (strike k)) n M f = f
       each (at p (change j e)) n M f = change-absent (key r) (getD (keys (read T R)) p 0) j e M ((columns p j e n) .0) f
 
-  adds-done : Reads c T (inTurn (doAdd (onLayer (keys T))) W changedLayer) (redoAdds W changedTable)
+  adds-done : Joins c T k (inTurn (doAdd (onLayer (keys T))) W changedLayer) (redoAdds W changedTable)
+      (inTurn (λ e. inTurn addTo (concerns e)) W changedDeeds)
+  unfolding concerns
   adds-done =
-      in-turn c T (doAdd (onLayer (keys T))) (doAdd onTable) CanAdd W step keep (GW .fit .sorted) changedLayer changedTable changes-done can
+      in-turn c T k (doAdd (onLayer (keys T))) (doAdd onTable) (λ e. inTurn addTo (concerning (keys (read T R)) k e)) CanAdd W step keep
+      (GW .fit .sorted) changedLayer changedTable changedDeeds changes-done can
     where
-      step : (e : Edit) (L : Layer) (M : Table) → Mem e W → Reads c T L M → CanAdd e M
-          → Reads c T (doAdd (onLayer (keys T)) e L) (doAdd onTable e M)
-      step (at s (add r)) L M m S w =
-          add-by-key c T a L M S r
-          (eqb-true (length r) c (and-r (leb s (length (read T R))) (eqb (length r) c) (GW .each (at s (add r)) m))) w
-      step (at s (strike k)) L M m S w = S
-      step (at s (change j e)) L M m S w = S
+      step : (e : Edit) (L : Layer) (M : Table) (ds : List Deed) → Mem e W → Joins c T k L M ds → CanAdd e M
+          → Joins c T k (doAdd (onLayer (keys T)) e L) (doAdd onTable e M) (inTurn addTo (concerning (keys (read T R)) k e) ds)
+      step (at s (add r)) L M ds m S w = record {
+        reads = add-by-key c T a L M (S .reads) r
+            (eqb-true (length r) c (and-r (leb s (length (read T R))) (eqb (length r) c) (GW .each (at s (add r)) m))) w;
+        means = add-means T L a (S .reads .good .fit) k r
+            ∙ (ap (λ (x : List Deed). cond (eqb (key r) k) (addDeeds r x) x) (S .means) ∙ done-if addTo (eqb (key r) k) (add r) ds);
+      }
+      step (at s (strike l)) L M ds m S w = record { reads = S .reads; means = S .means ∙ done-not addTo (eqb l k) (strike l) ds refl }
+      step (at s (change j e)) L M ds m S w = record { reads = S .reads; means = S .means ∙ done-not addTo (eqb (getD (keys (read T R)) s 0) k) (change j e) ds refl }
 
       keep : (d e : Edit) (M : Table) → Mem d W → Mem e W → before d e ≡ true → CanAdd e M → CanAdd e (doAdd onTable d M)
       keep d (at s (strike k)) M m n h w = tt
@@ -281,19 +377,42 @@ module _ (c : ℕ) (T : Table) (R W : Layer) (a : AscFrom key 0 T) (GR : Good c 
       can (at s (strike k)) m = tt
       can (at s (change j e)) m = tt
 
-  combined : Reads c T (combine (keys T) R W) (redo onTable (keys (read T R)) W (read T R))
-  unfolding combine struckLayer struckTable changedLayer changedTable
+  -- the combined layer, as the lower with the upper redone on it
+  combined : Joins c T k (combine (keys T) R W) (redo onTable (keys (read T R)) W (read T R))
+      (joined (meaning (keys T) R k) (meaning (keys (read T R)) W k))
+  unfolding combine struckLayer struckTable changedLayer changedTable struckDeeds changedDeeds concerns joined meaning
   combined =
-      subst (λ (K : List ℕ). Reads c T (redo (onLayer (keys T)) K W R) (redo onTable (keys (read T R)) W (read T R)))
-      (sym (keys-read T R (key-kept T R (GR .fit)))) adds-done
+      subst (λ (K : List ℕ). Joins c T k (redo (onLayer (keys T)) K W R) (redo onTable (keys (read T R)) W (read T R))
+      (joined (meaning (keys T) R k) (meaning (keys (read T R)) W k))) (sym (keys-read T R (key-kept T R (GR .fit))))
+      (record { reads = adds-done .reads; means = adds-done .means ∙ sym folded })
+    where
+      f : Edit → List Deed
+      f = concerning (keys (read T R)) k
 
-  -- the combined layer keeps form and fits
+      ds : List Deed
+      ds = gather (concerning (keys T) k) R
+
+      folded : inTurn addTo (gather f W) (inTurn changeTo (gather f W) (inTurn strikeTo (gather f W) ds))
+          ≡ inTurn (λ e. inTurn addTo (f e)) W (inTurn (λ e. inTurn changeTo (f e)) W (inTurn (λ e. inTurn strikeTo (f e)) W ds))
+      folded =
+          turn-gather f addTo W (inTurn changeTo (gather f W) (inTurn strikeTo (gather f W) ds))
+          ∙ ap (inTurn (λ e. inTurn addTo (f e)) W)
+          (turn-gather f changeTo W (inTurn strikeTo (gather f W) ds)
+          ∙ ap (inTurn (λ e. inTurn changeTo (f e)) W) (turn-gather f strikeTo W ds))
+
+-- W over what is read through R, both good: what the combined layer is.
+module _ (c : ℕ) (T : Table) (R W : Layer) (a : AscFrom key 0 T) (GR : Good c T R) (GW : Good c (read T R) W) where
+  -- it keeps form and fits
   pub combine-good : Good c T (combine (keys T) R W)
-  combine-good = combined .good
+  combine-good = combined c T R W a GR GW 0 .reads .good
 
-  -- and reads as R and then W in turn
+  -- it reads as R and then W in turn
   pub combine-reads : read T (combine (keys T) R W) ≡ read (read T R) W
-  combine-reads = combined .reads ∙ sym (read-redo (read T R) W ascends (GW .fit))
+  combine-reads = combined c T R W a GR GW 0 .reads .reads ∙ sym (read-redo (read T R) W (read-ascends T R a (GR .fit)) (GW .fit))
+
+  -- and for each key it means what R means with what W means done to it
+  pub meaning-combined : (k : ℕ) → meaning (keys T) (combine (keys T) R W) k ≡ joined (meaning (keys T) R k) (meaning (keys (read T R)) W k)
+  meaning-combined k = combined c T R W a GR GW k .means
 
   -- with the same row total
   pub combine-rows : rowsAfter (length T) (combine (keys T) R W) ≡ rowsAfter (rowsAfter (length T) R) W
@@ -303,7 +422,8 @@ module _ (c : ℕ) (T : Table) (R W : Layer) (a : AscFrom key 0 T) (GR : Good c 
       ∙ (read-length (read T R) W (GW .fit) ∙ ap (λ (n : ℕ). rowsAfter n W) (read-length T R (GR .fit))))
 
   -- and passes the tests of form and fit, where the rows after W are at most 4,096
-  pub combine-form : leb (rowsAfter (rowsAfter (length T) R) W) mostRows ≡ true → keepsForm c (length T) (combine (keys T) R W) ≡ true
+  pub combine-form : leb (rowsAfter (rowsAfter (length T) R) W) mostRows ≡ true
+      → keepsForm c (length T) (combine (keys T) R W) ≡ true
   combine-form h =
       and-of (inOrder c (length T) (combine (keys T) R W)) (leb (rowsAfter (length T) (combine (keys T) R W)) mostRows)
       (good-form c T (combine (keys T) R W) a combine-good) (ap (λ (n : ℕ). leb n mostRows) combine-rows ∙ h)

@@ -3,28 +3,103 @@
 use mathlib.Core.Path.{_≡_, refl, sym, ap, _∙_}
 use mathlib.Core.Logic.{_⊎_, inl, inr, ⊎-elim}
 use mathlib.Core.Bool.{Bool, true, false, not, cond, _&&_, _||_, true≢false}
-use mathlib.Core.List.{List, [], _∷_, List·Memᴰ as Mem, List·Memᴰ·tail as next, List·Memᴰ·eq-of-singleton as eq-of-singleton, Memᴰ·cast as mem-cast}
+use mathlib.Core.List.{
+  List,
+  [],
+  _∷_,
+  List·Memᴰ as Mem,
+  List·Memᴰ·tail as next,
+  List·Memᴰ·eq-of-singleton as eq-of-singleton,
+  Memᴰ·cast as mem-cast,
+}
 use Prim.Native.Nat.{ℕ, zero, suc, _≤_, _<_}
 use native.Mathlib.Omega.{arith}
 use lib.ListN.{length, getD, set, length-set}
 use lib.Seq.{set-set, set-out, getD-set-same}
 use lib.Dec.{leb, ltb, eqb}
-use borrow.Author.Tests.{ltb-true, ltb-false, lt-ltb, le-ltb, le-leb, eqb-true, eqb-false, eq-eqb, ne-eqb, not-true, not-false}
+use borrow.Author.Tests.{
+  ltb-true,
+  ltb-false,
+  lt-ltb,
+  le-ltb,
+  le-leb,
+  eqb-true,
+  eqb-false,
+  eq-eqb,
+  ne-eqb,
+  not-true,
+  not-false,
+}
 use Rattle.order.specs.Lists.{count, filter, without}
 use Rattle.order.proofs.Tests.{tests, and-l, and-r, and-of, same-test, not-passed}
 use Rattle.order.proofs.Members.{filter-mem, mem-filter, insert-mem, mem-insert, mem-map, map-mem}
 use Rattle.order.proofs.Counts.{count-le, length-insert}
 use Rattle.order.proofs.Pairs.{AllPairs, pairs-filter, pairs-insert}
-use Rattle.order.proofs.Ascending.{AscFrom, At, below, at-mem, at-cast, at-same, at-count, at-length, asc-same, asc-pairs, ext}
-use Rattle.order.proofs.Edited.{at-head, at-tail, without-mem, mem-without, length-without, pairs-without, apart-without, insert-without, turn-insert, turn-filter, turn-without, filter-without, map-set}
+use Rattle.order.proofs.Ascending.{
+  AscFrom,
+  At,
+  below,
+  at-mem,
+  at-cast,
+  at-same,
+  at-count,
+  at-length,
+  asc-same,
+  asc-pairs,
+  ext,
+}
+use Rattle.order.proofs.Edited.{
+  at-head,
+  at-tail,
+  without-mem,
+  mem-without,
+  length-without,
+  pairs-without,
+  apart-without,
+  insert-without,
+  turn-insert,
+  turn-filter,
+  turn-without,
+  filter-without,
+  map-set,
+}
 use Rattle.model.specs.Row.{Row, Table, cell, key, keys}
 use Rattle.model.specs.Cell.{CellEdit, to, done, put}
-use Rattle.model.specs.Layer.{Deed, add, strike, change, Edit, at, Layer, position, rowsAfter, changesRow, changesCell, changeRow, struck, changed}
+use Rattle.model.specs.Layer.{
+  Deed,
+  add,
+  strike,
+  change,
+  Edit,
+  at,
+  Layer,
+  position,
+  rowsAfter,
+  changesRow,
+  changesCell,
+  changeRow,
+  struck,
+  changed,
+}
 use Rattle.model.specs.Form.{sound}
 use Rattle.model.specs.Fit.{keysBelow}
 use Rattle.model.specs.Read.{read}
 use Rattle.model.specs.Position.{Origin, base, added, back}
-use Rattle.model.specs.Edits.{deedBefore, before, enter, addRow, strikeBase, changeBase, changeAddedRow, changeAdded, strikeOrigin, strikeRow, changeOrigin, changeRowNo, rowOfKey}
+use Rattle.model.specs.Edits.{
+  deedBefore,
+  before,
+  enter,
+  addRow,
+  strikeBase,
+  changeBase,
+  changeAddedRow,
+  changeAdded,
+  strikeOrigin,
+  strikeRow,
+  changeOrigin,
+  changeRowNo,
+  rowOfKey,
+}
 use Rattle.model.specs.Redo.{strikeKey, putKey, changeKey, rowBefore, addKey}
 use Rattle.model.proofs.Cell.{put-key, put-length, put-comm}
 use Rattle.model.proofs.Layer.{changed-key, changed-comm, Trade, of-struck, struck-of}
@@ -60,7 +135,8 @@ apt-of T L F (at s (add r)) m = (F .sits s r m, F .fresh s r m)
 apt-of T L F (at s (strike k)) m = F .strikes s k m
 apt-of T L F (at s (change j e)) m = F .changes s j e m
 
-good-by : (c : ℕ) (T : Table) (N : Layer) → ((e : Edit) → Mem e N → sound c (length T) e ≡ true) → ((e : Edit) → Mem e N → Apt T N e)
+good-by : (c : ℕ) (T : Table) (N : Layer) → ((e : Edit) → Mem e N → sound c (length T) e ≡ true)
+    → ((e : Edit) → Mem e N → Apt T N e)
     → AllPairs before N → Good c T N
 good-by c T N each apt sorted = record {
   each = each;
@@ -89,7 +165,8 @@ apt-in T L N h (at s (strike k)) w = w
 apt-in T L N h (at s (change j e)) w = w
 
 -- a good layer less edits that are no strikes
-good-less : (c : ℕ) (T : Table) (L M : Layer) → Good c T L → ((e : Edit) → Mem e M → Mem e L) → StrikesIn L M → AllPairs before M → Good c T M
+good-less : (c : ℕ) (T : Table) (L M : Layer) → Good c T L → ((e : Edit) → Mem e M → Mem e L) → StrikesIn L M
+    → AllPairs before M → Good c T M
 good-less c T L M G sub h o =
     good-by c T M (λ e m. G .each e (sub e m)) (λ e m. apt-in T L M h e (apt-of T L (G .fit) e (sub e m))) o
 
@@ -97,7 +174,8 @@ good-less c T L M G sub h o =
 abbrev Placed : Layer → ℕ → Deed → Type 0
 Placed M s d = (p : ℕ) (b : Deed) → Mem (at p b) M → p ≡ s → (deedBefore b d ≡ true) ⊎ (deedBefore d b ≡ true)
 
-placed : (M : Layer) (s : ℕ) (d : Deed) → Placed M s d → (x : Edit) → Mem x M → before x (at s d) ≡ false → before (at s d) x ≡ true
+placed : (M : Layer) (s : ℕ) (d : Deed) → Placed M s d → (x : Edit) → Mem x M → before x (at s d) ≡ false
+    → before (at s d) x ≡ true
 placed M s d h (at p b) m f = go (ltb p s) refl (eqb p s) refl
   where
     no : before (at p b) (at s d) ≡ true → ⊥
@@ -110,7 +188,8 @@ placed M s d h (at p b) m f = go (ltb p s) refl (eqb p s) refl
         ⊎-elim (λ w. absurd (no (before-eq p s b d ps w))) (λ w. before-eq s p d b (sym ps) w) (h p b m ps)
     go false e false g = before-lt (at s d) (at p b) (omega tests)
 
-good-enter : (c : ℕ) (T : Table) (M : Layer) (s : ℕ) (d : Deed) → Good c T M → sound c (length T) (at s d) ≡ true → Apt T M (at s d)
+good-enter : (c : ℕ) (T : Table) (M : Layer) (s : ℕ) (d : Deed) → Good c T M → sound c (length T) (at s d) ≡ true
+    → Apt T M (at s d)
     → Placed M s d → Good c T (enter (at s d) M)
 good-enter c T M s d G e w h = good-by c T (enter (at s d) M) each apt order
   where
@@ -122,7 +201,8 @@ good-enter c T M s d G e w h = good-by c T (enter (at s d) M) each apt order
 
     apt : (x : Edit) → Mem x (enter (at s d) M) → Apt T (enter (at s d) M) x
     apt x m =
-        ⊎-elim (λ g. rw (g) (apt-in T M (enter (at s d) M) kept (at s d) w)) (λ n. apt-in T M (enter (at s d) M) kept x (apt-of T M (G .fit) x n))
+        ⊎-elim (λ g. rw (g) (apt-in T M (enter (at s d) M) kept (at s d) w))
+        (λ n. apt-in T M (enter (at s d) M) kept x (apt-of T M (G .fit) x n))
         (insert-mem before (at s d) M x m)
 
     order : AllPairs before (enter (at s d) M)
@@ -165,7 +245,8 @@ put-over r j e f = go (ltb j (length r)) refl
   where
     go : (t : Bool) → ltb j (length r) ≡ t → put (put r j f) j e ≡ put r j e
     go true h =
-        ap (λ (v : ℕ). set (set r j (done f (cell j r))) j (done e v)) (getD-set-same r j (done f (cell j r)) 0 (ltb-true j (length r) h))
+        ap (λ (v : ℕ). set (set r j (done f (cell j r))) j (done e v))
+        (getD-set-same r j (done f (cell j r)) 0 (ltb-true j (length r) h))
         ∙ (ap (λ (v : ℕ). set (set r j (done f (cell j r))) j v) (done-over e f (cell j r)) ∙ set-set r j (done f (cell j r)) (done e (cell j r)))
     go false h = ap (λ (q : Row). put q j e) (set-out r j (done f (cell j r)) (ltb-false j (length r) h))
 
@@ -212,7 +293,8 @@ changed-filter s j e (at p (change i f) ∷ L) q r h = go (λ x y g. changed-fil
         → (t : Bool) → eqb s p ≡ t → (u : Bool) → eqb j i ≡ u
         → put (changed s (cond (not (t && u)) (at p (change i f) ∷ filter (otherCell s j) L) (filter (otherCell s j) L)) q) j e
         ≡ put (changed s L (cond t (put r i f) r)) j e
-    go ih true sp true ji = ih q (put r i f) (h ∙ (sym (put-over r j e f) ∙ ap (λ (k : ℕ). put (put r k f) j e) (eqb-true j i ji)))
+    go ih true sp true ji =
+        ih q (put r i f) (h ∙ (sym (put-over r j e f) ∙ ap (λ (k : ℕ). put (put r k f) j e) (eqb-true j i ji)))
     go ih true sp false ji = unfolded sp ∙ ih (put q i f) (put r i f) (swap q ∙ (ap (λ (x : Row). put x i f) h ∙ sym (swap r)))
       where
         swap : (x : Row) → put (put x i f) j e ≡ put (put x j e) i f
@@ -301,8 +383,10 @@ module _ (c : ℕ) (T : Table) (L : Layer) (a : AscFrom key 0 T) (G : Good c T L
         into x w = mem-insert rowBefore r (read T L) x (go w)
           where
             go : Shown 0 T (addRow (keys T) r L) x → (x ≡ r) ⊎ Mem x (read T L)
-            go (inl w) = ⊎-elim (λ g. inl (cc)) (λ n. inr (seen x (inl (w .0, n)))) (insert-mem before _ L (at (w .0) (add x)) (w .1))
-            go (inr w) = inr (seen x (inr (base-same T (addRow (keys T) r L) L (λ p. sym (add-struck p)) (λ p q. sym (add-changed p q)) x w)))
+            go (inl w) =
+                ⊎-elim (λ g. inl (cc)) (λ n. inr (seen x (inl (w .0, n)))) (insert-mem before _ L (at (w .0) (add x)) (w .1))
+            go (inr w) =
+                inr (seen x (inr (base-same T (addRow (keys T) r L) L (λ p. sym (add-struck p)) (λ p q. sym (add-changed p q)) x w)))
 
         from : (x : Row) → Mem x (addKey r (read T L)) → Shown 0 T (addRow (keys T) r L) x
         from x m = go (insert-mem rowBefore r (read T L) x m)
@@ -336,7 +420,8 @@ module _ (c : ℕ) (T : Table) (L : Layer) (a : AscFrom key 0 T) (G : Good c T L
   -- The added entry number i, which adds q, disappears.
   module _ (i p : ℕ) (q : Row) (n : At (at p (add q)) i 0 L) where
     lost-strikes : StrikesIn L (without i L)
-    lost-strikes s k m = ⊎-elim (λ g. absurd (omega (arith, ap kind g))) (λ w. w) (mem-without i L (at p (add q)) (at s (strike k)) n m)
+    lost-strikes s k m =
+        ⊎-elim (λ g. absurd (omega (arith, ap kind g))) (λ w. w) (mem-without i L (at p (add q)) (at s (strike k)) n m)
 
     lost-good : Good c T (without i L)
     lost-good = good-less c T L (without i L) G (without-mem i L) lost-strikes (pairs-without before i L (G .fit .sorted))
@@ -366,7 +451,9 @@ module _ (c : ℕ) (T : Table) (L : Layer) (a : AscFrom key 0 T) (G : Good c T L
     lost = reads-as c T (without i L) (strikeKey (key q) (read T L)) a lost-good (strike-asc (key q) (read T L) ascends) into from
       where
         into : (x : Row) → Shown 0 T (without i L) x → Mem x (strikeKey (key q) (read T L))
-        into x (inl w) = mem-strike (key q) (read T L) x (seen x (inl (w .0, without-mem i L (at (w .0) (add x)) (w .1)))) (only (w .0) x (w .1))
+        into x (inl w) =
+            mem-strike (key q) (read T L) x (seen x (inl (w .0, without-mem i L (at (w .0) (add x)) (w .1))))
+            (only (w .0) x (w .1))
         into x (inr w) =
             let b = base-same T (without i L) L (λ s. sym (lost-struck s)) (λ s y. sym (lost-changed s y)) x w in
             mem-strike (key q) (read T L) x (seen x (inr b))
@@ -406,9 +493,11 @@ module _ (c : ℕ) (T : Table) (L : Layer) (a : AscFrom key 0 T) (G : Good c T L
 
       -- no strike stands at s
       no-strike : (p k : ℕ) → Mem (at p (strike k)) (filter keeps L) → p ≡ s → ⊥
-      no-strike p k m e = true≢false (sym (ap (λ (t : ℕ). struck t L) (sym e) ∙ struck-of p k L (thin-in (at p (strike k)) m)) ∙ u)
+      no-strike p k m e =
+          true≢false (sym (ap (λ (t : ℕ). struck t L) (sym e) ∙ struck-of p k L (thin-in (at p (strike k)) m)) ∙ u)
 
-      entered-good : sound c (length T) (at s d) ≡ true → Apt T (filter keeps L) (at s d) → Placed (filter keeps L) s d → Good c T (entered keeps s d L)
+      entered-good : sound c (length T) (at s d) ≡ true → Apt T (filter keeps L) (at s d) → Placed (filter keeps L) s d
+          → Good c T (entered keeps s d L)
       entered-good e w h = good-enter c T (filter keeps L) s d thin-good e w h
         where
           thin-good : Good c T (filter keeps L)
@@ -437,14 +526,16 @@ module _ (c : ℕ) (T : Table) (L : Layer) (a : AscFrom key 0 T) (G : Good c T L
       strikes-kept : StrikesIn L (entered keeps s d L)
       strikes-kept p k m = still (at s d) (at p (strike k)) (filter keeps L) (stays (at p (strike k)) refl m)
 
-      strikes-old : (p k : ℕ) → (at p (strike k) ≡ at s d → ⊥) → Mem (at p (strike k)) (entered keeps s d L) → Mem (at p (strike k)) L
+      strikes-old : (p k : ℕ) → (at p (strike k) ≡ at s d → ⊥) → Mem (at p (strike k)) (entered keeps s d L)
+          → Mem (at p (strike k)) L
       strikes-old p k h m = thin-in (at p (strike k)) (old (at s d) (at p (strike k)) (filter keeps L) h m)
 
     -- It is struck: no change of it is left.
     struck-bare : (e : Edit) → Mem e (strikeBase (keys T) s L) → changesRow s e ≡ false
     unfolding strikeBase
     struck-bare e m =
-        ⊎-elim (λ g. ap (changesRow s) g) (λ k. not-true (changesRow s e) ((filter-mem _ L e k) .1)) (insert-mem before _ (filter _ L) e m)
+        ⊎-elim (λ g. ap (changesRow s) g) (λ k. not-true (changesRow s e) ((filter-mem _ L e k) .1))
+        (insert-mem before _ (filter _ L) e m)
 
     gone : (e : Edit) → otherRow s e ≡ false → changesRow s e ≡ true
     gone e h = not-false (changesRow s e) h
@@ -462,7 +553,8 @@ module _ (c : ℕ) (T : Table) (L : Layer) (a : AscFrom key 0 T) (G : Good c T L
     strikeBase-good : Good c T (strikeBase (keys T) s L)
     unfolding strikeBase theStrike
     strikeBase-good =
-        entered-good (otherRow s) gone theStrike (lt-ltb s (length T) (omega (arith, at-length n))) (b, n, sym (key-of n)) strikeBase-placed
+        entered-good (otherRow s) gone theStrike (lt-ltb s (length T) (omega (arith, at-length n)))
+        (b, n, sym (key-of n)) strikeBase-placed
 
     struck-here : struck s (strikeBase (keys T) s L) ≡ true
     unfolding strikeBase theStrike
@@ -488,7 +580,8 @@ module _ (c : ℕ) (T : Table) (L : Layer) (a : AscFrom key 0 T) (G : Good c T L
     base-struck : Reads c T (strikeBase (keys T) s L) (strikeKey (key b) (read T L))
     unfolding strikeBase theStrike
     base-struck =
-        reads-as c T (strikeBase (keys T) s L) (strikeKey (key b) (read T L)) a strikeBase-good (strike-asc (key b) (read T L) ascends) into from
+        reads-as c T (strikeBase (keys T) s L) (strikeKey (key b) (read T L)) a strikeBase-good
+        (strike-asc (key b) (read T L) ascends) into from
       where
         into : (x : Row) → Shown 0 T (strikeBase (keys T) s L) x → Mem x (strikeKey (key b) (read T L))
         into x (inl w) =
@@ -572,7 +665,8 @@ module _ (c : ℕ) (T : Table) (L : Layer) (a : AscFrom key 0 T) (G : Good c T L
       base-changed : Reads c T (changeBase s j e L) (changeKey (key b) j e (read T L))
       unfolding changeBase
       base-changed =
-          reads-as c T (changeBase s j e L) (changeKey (key b) j e (read T L)) a changeBase-good (change-asc (key b) j e (read T L) past ascends)
+          reads-as c T (changeBase s j e L) (changeKey (key b) j e (read T L)) a changeBase-good
+          (change-asc (key b) j e (read T L) past ascends)
           into from
         where
           into : (x : Row) → Shown 0 T (changeBase s j e L) x → Mem x (changeKey (key b) j e (read T L))
@@ -625,16 +719,6 @@ module _ (c : ℕ) (T : Table) (L : Layer) (a : AscFrom key 0 T) (G : Good c T L
           length-without i (read T L) (omega (arith, at-length n)),
         )
 
-  -- By key: the row number of a shown key is that of its row.
-  pub row-of-key : (i : ℕ) (q : Row) → At q i 0 (read T L) → rowOfKey (keys T) L (key q) ≡ i
-  row-of-key i q n =
-      omega (
-        arith,
-        ap (keysBelow (key q)) (keys-read T L (key-kept T L (G .fit))),
-        below-keys (key q) (read T L),
-        at-count key 0 0 (read T L) ascends q i n,
-      )
-
 pub add-length : (K : List ℕ) (r : Row) (L : Layer) → length (addRow K r L) ≡ suc (length L)
 unfolding addRow
 add-length K r L = length-insert before (at (keysBelow (key r) K) (add r)) L
@@ -662,14 +746,15 @@ deed-key (change i f) q r h = refl
 before-key : (x : Edit) (p : ℕ) (q r : Row) → key q ≡ key r → before x (at p (add q)) ≡ before x (at p (add r))
 before-key (at s d) p q r h = ap (λ (t : Bool). ltb s p || (eqb s p && t)) (deed-key d q r h)
 
-change-set : (i j : ℕ) (e : CellEdit) (L : Layer) (p : ℕ) (q : Row) → At (at p (add q)) i 0 L → changeAdded i j e L ≡ set L i (at p (add (put q j e)))
+pub change-set : (i j : ℕ) (e : CellEdit) (L : Layer) (p : ℕ) (q : Row) → At (at p (add q)) i 0 L
+    → changeAdded i j e L ≡ set L i (at p (add (put q j e)))
 change-set i j e [] p q n = refl
 change-set zero j e (d ∷ L) p q n = ap (λ (x : Edit). changeAddedRow j e x ∷ L) (sym (at-head n))
 change-set (suc i) j e (d ∷ L) p q n = ap (λ (x : Layer). d ∷ x) (change-set i j e L p q (at-tail n))
 
 -- The added entry number i, which adds q, has its column j changed: as if it had disappeared and the changed row were added.
-module _ (c : ℕ) (T : Table) (L : Layer) (a : AscFrom key 0 T) (G : Good c T L) (j : ℕ) (e : CellEdit) (past : 1 ≤ j) where
-  module _ (i p : ℕ) (q : Row) (n : At (at p (add q)) i 0 L) where
+module _ (c : ℕ) (T : Table) (L : Layer) (a : AscFrom key 0 T) (G : Good c T L) where
+  module _ (i p : ℕ) (q : Row) (n : At (at p (add q)) i 0 L) (j : ℕ) (e : CellEdit) (past : 1 ≤ j) where
     put-same : key (put q j e) ≡ key q
     put-same = put-key q j e past
 
@@ -718,12 +803,12 @@ module _ (c : ℕ) (T : Table) (L : Layer) (a : AscFrom key 0 T) (G : Good c T L
             ∙ eqb-true (length q) c (and-r (leb p (length T)) (eqb (length q) c) (G .each (at p (add q)) (at-mem n)))
 
   -- Change column j of row number i, where q is shown.
-  module _ (within : j < c) (i : ℕ) (q : Row) (n : At q i 0 (read T L)) where
+  module _ (i : ℕ) (q : Row) (n : At q i 0 (read T L)) (j : ℕ) (e : CellEdit) (past : 1 ≤ j) (within : j < c) where
     change-origin : (o : Origin) → RowOrigin T L q o → Reads c T (changeOrigin j e L o) (changeKey (key q) j e (read T L))
     change-origin (base s) O =
         let w = base-at T L q s O in
         rw (ap key (w .3) ∙ same-key c T L a G s (w .0)) (base-changed c T L a G s (w .0) (w .1) (w .2) j e past within)
-    change-origin (added k) O = let w = added-at T L q k O in added-changed k (w .0) q (w .1) i n
+    change-origin (added k) O = let w = added-at T L q k O in added-changed k (w .0) q (w .1) j e past i n
 
     row-changed : Reads c T (changeRowNo (keys T) i j e L) (changeKey (key q) j e (read T L))
     unfolding changeRowNo
@@ -748,3 +833,14 @@ module _ (c : ℕ) (T : Table) (L : Layer) (a : AscFrom key 0 T) (G : Good c T L
           ap length change-row,
           length-set (read T L) i (put q j e),
         )
+
+-- By key: the row number of a shown key is that of its row.
+pub row-of-key : (T : Table) (L : Layer) → AscFrom key 0 T → Fit T L → (i : ℕ) (q : Row) → At q i 0 (read T L)
+    → rowOfKey (keys T) L (key q) ≡ i
+row-of-key T L a F i q n =
+    omega (
+      arith,
+      ap (keysBelow (key q)) (keys-read T L (key-kept T L F)),
+      below-keys (key q) (read T L),
+      at-count key 0 0 (read T L) (read-ascends T L a F) q i n,
+    )
