@@ -12,7 +12,8 @@ use Rattle.model.specs.Cell.{to}
 use Rattle.model.specs.Layer.{Deed, add, strike, change, Edit, at}
 use Rattle.model.specs.Raw.{ADD, STRIKE, editOf}
 use Rattle.model.specs.Edits.{deedBefore, before}
-use Rattle.model.specs.Conflict.{Rule, none, struckRow, sameCell, sameKey, clash, ruleNumber}
+use Rattle.model.specs.Conflict.{Rule, none, struckRow, sameCell, sameKey, clash, met, ruleNumber}
+use Rattle.model.proofs.Conflict.{clash-sym}
 use Rattle.pass.specs.declared.head.Head.{Head}
 use Rattle.pass.specs.Head.{headOf, seen}
 
@@ -47,20 +48,23 @@ head-before d (at s e) = by-key (λ x. before x (at s e)) (λ p q r k. level p q
     level p q r (strike l) k = refl
     level p q r (change j f) k = refl
 
-pub clash-heads : (d e : Entry) → clash (seen (headOf d)) (seen (headOf e)) ≡ clash (editOf d) (editOf e)
-clash-heads d e =
-    by-key (λ x. clash x (seen (headOf e))) (λ s q r k. left s q r (seen (headOf e)) k) d
-    ∙ by-key (clash (editOf d)) (λ s q r k. right s q r (editOf d) k) e
+pub clash-head : (d : Edit) (e : Entry) → clash d (seen (headOf e)) ≡ clash d (editOf e)
+clash-head d e = by-key (clash d) (λ s q r k. level s q r d k) e
   where
-    left : (p : ℕ) (q r : Row) (e : Edit) → key q ≡ key r → clash (at p (add q)) e ≡ clash (at p (add r)) e
-    left p q r (at s (add x)) k = rw k
-    left p q r (at s (strike l)) k = refl
-    left p q r (at s (change j f)) k = refl
+    level : (s : ℕ) (q r : Row) (d : Edit) → key q ≡ key r → clash d (at s (add q)) ≡ clash d (at s (add r))
+    level s q r (at p (add x)) k = rw k
+    level s q r (at p (strike l)) k = refl
+    level s q r (at p (change j f)) k = refl
 
-    right : (s : ℕ) (q r : Row) (d : Edit) → key q ≡ key r → clash d (at s (add q)) ≡ clash d (at s (add r))
-    right s q r (at p (add x)) k = rw k
-    right s q r (at p (strike l)) k = refl
-    right s q r (at p (change j f)) k = refl
+pub head-clash : (d : Entry) (e : Edit) → clash (seen (headOf d)) e ≡ clash (editOf d) e
+head-clash d e = clash-sym (seen (headOf d)) e ∙ (clash-head e d ∙ clash-sym e (editOf d))
+
+-- a rule is met where its number is not 0
+pub met-number : (r : Rule) → not (eqb (ruleNumber r) 0) ≡ met r
+met-number none = refl
+met-number struckRow = refl
+met-number sameCell = refl
+met-number sameKey = refl
 
 number : (t : Bool) (r : Rule) → ruleNumber (cond t r none) ≡ cond t (ruleNumber r) 0
 number true r = refl

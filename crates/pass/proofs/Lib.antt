@@ -1,2 +1,5 @@
 pub mod Heads
 pub mod Walking
+pub mod Cursors
+pub mod Alongside
+pub mod Looking

@@ -1,32 +1,49 @@
+-- `pass::walk::Cursor::past` meets its contract: by the kind, which is at most one of the two that count.
+-- Assumes nothing.
 use borrow.Author.Needs.{needs}
+use borrow.Author.Tests.{eq-eqb, ne-eqb}
+use native.Mathlib.Omega.{arith}
+use mathlib.Core.Path.{refl, ap}
+use Rattle.order.specs.Lists.{one}
+use Rattle.model.specs.Raw.{ADD, STRIKE}
 use Rattle.pass.proofs.walk.Cursor.past.Statement.{statement}
 use Rattle.pass.proofs.walk.Cursor.past.Tie as tie
-use Rattle.pass.proofs.walk.Cursor.past.Reads as reads
-use Rattle.pass.proofs.walk.Cursor.past.Lts as lts
 
--- src/walk.rt:44:17
 add-i : tie.Need-add-i
 add-i c = search needs
 
--- src/walk.rt:51:23
 add-t8 : tie.Need-add-t8
 add-t8 c = search needs
 
--- src/walk.rt:48:13
 returns : tie.Need-returns
-returns c = ?
+returns c =
+    let k = c .before .before .args .kind in (
+      refl,
+      refl,
+      omega (arith, ap one (eq-eqb k ADD (c .if1 .taken))),
+      omega (arith, ap one (ne-eqb k STRIKE (λ e. omega arith))),
+    )
 
--- src/walk.rt:60:26
 add-t9 : tie.Need-add-t9
 add-t9 c = search needs
 
--- src/walk.rt:56:13
 returns-2 : tie.Need-returns-2
-returns-2 c = ?
+returns-2 c =
+    let k = c .before .before .before .args .kind in (
+      refl,
+      refl,
+      omega (arith, ap one (ne-eqb k ADD (c .before .if1 .left))),
+      omega (arith, ap one (eq-eqb k STRIKE (c .if2 .taken))),
+    )
 
--- src/walk.rt:39:5
 returns-3 : tie.Need-returns-3
-returns-3 c = ?
+returns-3 c =
+    let k = c .before .before .before .args .kind in (
+      refl,
+      refl,
+      omega (arith, ap one (ne-eqb k ADD (c .before .if1 .left))),
+      omega (arith, ap one (ne-eqb k STRIKE (c .if2 .left))),
+    )
 
 pub past-spec : {M : Type 1} → statement M
 past-spec = tie.close (tie.spec add-i add-t8 returns add-t9 returns-2 returns-3)
