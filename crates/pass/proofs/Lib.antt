@@ -3,3 +3,4 @@ pub mod Walking
 pub mod Cursors
 pub mod Alongside
 pub mod Looking
+pub mod Renumbering
