@@ -4,3 +4,5 @@ pub mod Cursors
 pub mod Alongside
 pub mod Looking
 pub mod Renumbering
+pub mod Stages
+pub mod Sides
