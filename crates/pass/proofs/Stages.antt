@@ -43,6 +43,38 @@ pub move-stages : (c : ℕ) (K : List ℕ) (mx : ℕ) (x : List ℕ) (my : ℕ) 
 unfolding moveAnswer formTests fitTests passTests
 move-stages c K mx x my y = refl
 
+-- the answer of a move, by the answers of its stages
+module _ (c : ℕ) (K : List ℕ) (mx : ℕ) (x : List ℕ) (my : ℕ) (y : List ℕ) (t : ℕ) where
+  abbrev pub firstStage : Answer
+  firstStage = firstMet Refused (formTests c (length K) mx x my y) (Done t)
+
+  abbrev pub secondStage : Answer
+  secondStage = firstMet Refused (fitTests K (layerOf c mx x) (layerOf c my y)) (Done 0)
+
+  abbrev pub thirdStage : Answer
+  thirdStage = firstMet Refused (passTests (length K) (layerOf c mx x) (layerOf c my y)) (Done mx)
+
+  by-stages : moveAnswer c K mx x my y ≡ onward Refused firstStage (onward Refused secondStage thirdStage)
+  by-stages =
+      let X = layerOf c mx x in
+      let Y = layerOf c my y in
+      move-stages c K mx x my y
+      ∙ (stage (formTests c (length K) mx x my y) (fitTests K X Y ++ passTests (length K) X Y) t (Done mx)
+      ∙ ap (onward Refused firstStage) (stage (fitTests K X Y) (passTests (length K) X Y) 0 (Done mx)))
+
+  pub first-refuses : (r : Refusal) → firstStage ≡ Refused r → Refused r ≡ moveAnswer c K mx x my y
+  first-refuses r h = sym (by-stages ∙ ap (λ (a : Answer). onward Refused a (onward Refused secondStage thirdStage)) h)
+
+  module _ (k : ℕ) (f : firstStage ≡ Done k) where
+    pub second-answers : onward Refused secondStage thirdStage ≡ moveAnswer c K mx x my y
+    second-answers = sym (by-stages ∙ ap (λ (a : Answer). onward Refused a (onward Refused secondStage thirdStage)) f)
+
+    pub second-refuses : (r : Refusal) → secondStage ≡ Refused r → Refused r ≡ moveAnswer c K mx x my y
+    second-refuses r h = sym (ap (λ (a : Answer). onward Refused a thirdStage) h) ∙ second-answers
+
+    pub third-answers : (l : ℕ) → secondStage ≡ Done l → thirdStage ≡ moveAnswer c K mx x my y
+    third-answers l h = sym (ap (λ (a : Answer). onward Refused a thirdStage) h) ∙ second-answers
+
 -- the tests that a stage has passed
 abbrev pub Passed : List Test → Type 0
 Passed [] = Unit {0}

@@ -1,42 +1,49 @@
+-- `pass::both_fit` meets its contract: the keys, then the place of fit of each layer, X before Y.
+-- Assumes nothing.
 use borrow.Author.Needs.{needs}
+use borrow.Author.Tests.{not-true, not-false}
+use native.Mathlib.Omega.{arith}
+use mathlib.Core.Path.{_≡_, sym, _∙_}
+use mathlib.Core.Bool.{true}
+use Rattle.order.specs.Lists.{ascending}
+use Rattle.form.proofs.Accepted.{accepted}
+use Rattle.pass.proofs.Stages.{keys-refused, mine-misfits, theirs-misfits, both-suit}
 use Rattle.pass.proofs.both_fit.Statement.{statement}
 use Rattle.pass.proofs.both_fit.Tie as tie
-use Rattle.pass.proofs.both_fit.Reads as reads
-use Rattle.pass.proofs.both_fit.Lts as lts
-use Rattle.form.proofs.fit_place.Reads as fit-place-reads
-use Rattle.form.proofs.keys_ascend.Reads as keys-ascend-reads
 
--- src/lib.rt:47:9
 keys-ascend-requires : tie.Need-keys-ascend-requires
 keys-ascend-requires c κs = search needs
 
--- src/lib.rt:48:9
-returns : tie.Need-returns
-returns c = ?
+rising : (c : tie.Else1) → ascending (c .before .before .before .before .before .args .keys .now) ≡ true
+rising c = sym (c .before .keys-ascend .ensures) ∙ not-false _ (c .if1 .left)
 
--- src/lib.rt:53:9
+returns : tie.Need-returns
+returns c = keys-refused _ _ _ _ _ _ (sym (c .before .keys-ascend .ensures) ∙ not-true _ (c .if1 .taken))
+
 fit-place-requires : tie.Need-fit-place-requires
 fit-place-requires c κs = search needs
 
--- src/lib.rt:55:9
 returns-2 : tie.Need-returns-2
-returns-2 c = ?
+returns-2 c =
+    mine-misfits _ _ _ _ _ _ (rising (c .before .before)) _ (c .before .fit-place .ensures) (c .if2 .taken)
 
--- src/lib.rt:60:9
 fit-place-requires-2 : tie.Need-fit-place-requires-2
 fit-place-requires-2 c κs = search needs
 
--- src/lib.rt:64:20
 add-t13 : tie.Need-add-t13
-add-t13 c = ?
+add-t13 c =
+    let s = c .before .before .before .before .before .before .before .before .before in
+    omega (arith, accepted _ _ _ _ _ (s .pre .1) .held .entries, c .if3 .taken)
 
--- src/lib.rt:62:9
 returns-3 : tie.Need-returns-3
-returns-3 c = ?
+returns-3 c =
+    let e = c .before .before in
+    theirs-misfits _ _ _ _ _ _ (rising (e .before .before)) _ (e .before .fit-place .ensures) (e .if2 .left) _ (c .before .fit-place2 .ensures) (c .if3 .taken)
 
--- src/lib.rt:43:1
 returns-4 : tie.Need-returns-4
-returns-4 c = ?
+returns-4 c =
+    let e = c .before .before in
+    both-suit _ _ _ _ _ _ (rising (e .before .before)) _ (e .before .fit-place .ensures) (e .if2 .left) _ (c .before .fit-place2 .ensures) (c .if3 .left)
 
 pub both-fit-spec : {M : Type 1} → statement M
 both-fit-spec =

@@ -1,29 +1,28 @@
+-- `pass::free` meets its contract: the lowest entry in conflict, then the row total.
+-- Assumes nothing.
 use borrow.Author.Needs.{needs}
+use Rattle.pass.proofs.Stages.{clash-refused, rows-refused, passes}
 use Rattle.pass.proofs.free.Statement.{statement}
 use Rattle.pass.proofs.free.Tie as tie
-use Rattle.pass.proofs.free.Reads as reads
-use Rattle.pass.proofs.free.Lts as lts
-use Rattle.pass.proofs.walk.first_clash.Reads as first-clash-reads
 
--- src/lib.rt:75:9
 first-clash-requires : tie.Need-first-clash-requires
 first-clash-requires c κs = search needs
 
--- src/lib.rt:77:9
 returns : tie.Need-returns
-returns c = ?
+returns c = clash-refused _ _ _ _ _ _ _ (c .before .before .before .before .pre) _ (c .before .first-clash .ensures) (c .if1 .taken)
 
--- src/lib.rt:79:8
 add-if2 : tie.Need-add-if2
 add-if2 c = search needs
 
--- src/lib.rt:80:9
 returns-2 : tie.Need-returns-2
-returns-2 c = ?
+returns-2 c =
+    let f = c .before .before in
+    rows-refused _ _ _ _ _ _ _ (f .before .before .before .pre) _ (f .first-clash .ensures) (c .before .if1 .left) (c .if2 .taken)
 
--- src/lib.rt:71:1
 returns-3 : tie.Need-returns-3
-returns-3 c = ?
+returns-3 c =
+    let f = c .before .before in
+    passes _ _ _ _ _ _ _ (f .before .before .before .pre) _ (f .first-clash .ensures) (c .before .if1 .left) (c .if2 .left)
 
 pub free-spec : {M : Type 1} → statement M
 free-spec = tie.close (tie.spec first-clash-requires returns add-if2 returns-2 returns-3)
