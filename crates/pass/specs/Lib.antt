@@ -1,3 +1,4 @@
 pub mod Head
 pub mod Walk
 pub mod Stages
+pub mod Promises
