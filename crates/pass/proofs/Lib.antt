@@ -8,3 +8,4 @@ pub mod Stages
 pub mod Sides
 pub mod Readback
 pub mod Promises
+pub mod Examples

@@ -7,7 +7,7 @@ use mathlib.Core.Bool.{Bool, true, false, not, cond, _&&_, true≢false}
 use mathlib.Core.List.{List, [], _∷_, _++_, map, List·Memᴰ as Mem}
 use lib.ListN.{length, getD, drop, length-map}
 use lib.Dec.{ltb, leb, eqb}
-use borrow.Author.Tests.{ltb-true, ltb-false, lt-ltb, le-leb, eq-eqb}
+use borrow.Author.Tests.{ltb-true, le-ltb, le-leb, eq-eqb}
 use Rattle.order.specs.Lists.{one, ascending, any, count, firstAt}
 use Rattle.order.proofs.Tests.{and-of, or-l}
 use Rattle.order.proofs.Counts.{count-map, count-same}
@@ -17,17 +17,17 @@ use Rattle.model.specs.Answer.{numberOf}
 use Rattle.model.specs.Row.{Row, Table, key, keys}
 use Rattle.model.specs.Cell.{to}
 use Rattle.model.specs.Layer.{Deed, add, strike, change, Edit, at, Layer, isAdd, isStrike, rowsAfter}
-use Rattle.model.specs.Raw.{layerOf, flat}
-use Rattle.model.specs.Form.{inOrder}
-use Rattle.model.specs.Fit.{fits}
+use Rattle.model.specs.Raw.{entriesAt, layerOf, flat}
+use Rattle.model.specs.Form.{formPlace, inOrder, argsOk}
+use Rattle.model.specs.Fit.{fitPlace}
 use Rattle.model.specs.Read.{read}
 use Rattle.model.specs.Conflict.{clash, met, clashesWith, conflict, conflictPlace}
 use Rattle.model.specs.Demand.{Conflicting}
 use Rattle.model.specs.Move.{moved, move}
 use Rattle.model.specs.Past.{Past}
-use Rattle.model.specs.Refusals.{Test, refuse, refusal, firstMet}
+use Rattle.model.specs.Refusals.{Test, refuse, refusal, firstMet, breaksForm}
 use Rattle.model.specs.Calls.{written, movedLayer, moveAnswer}
-use Rattle.model.proofs.Raw.{layer-length}
+use Rattle.model.proofs.Raw.{layer-length, args-held}
 use Rattle.model.proofs.Fit.{Fit}
 use Rattle.model.proofs.Count.{read-length}
 use Rattle.model.proofs.Conflict.{conflicting, of-conflicting}
@@ -119,3 +119,128 @@ module _ (c : ℕ) (K : List ℕ) (mx : ℕ) (x : List ℕ) (my : ℕ) (y : List
             let t = of-conflicting X Y C in
             (o .0 ∙ (sym answer ∙ rw t), lowest X Y t),
       )
+
+-- a moved layer has the entries that it had
+moved-entries : (X Y : Layer) → length (move X Y) ≡ length X
+moved-entries X Y = length-map X (moved Y)
+
+moved-adds : (X Y : Layer) → count isAdd (move X Y) ≡ count isAdd X
+moved-adds X Y = count-map (moved Y) isAdd X ∙ count-same (λ e. isAdd (moved Y e)) isAdd X (λ e m. each e)
+  where
+    each : (e : Edit) → one (isAdd (moved Y e)) ≡ one (isAdd e)
+    each (at s (add r)) = refl
+    each (at s (strike k)) = refl
+    each (at s (change j f)) = refl
+
+moved-strikes : (X Y : Layer) → count isStrike (move X Y) ≡ count isStrike X
+moved-strikes X Y = count-map (moved Y) isStrike X ∙ count-same (λ e. isStrike (moved Y e)) isStrike X (λ e m. each e)
+  where
+    each : (e : Edit) → one (isStrike (moved Y e)) ≡ one (isStrike e)
+    each (at s (add r)) = refl
+    each (at s (strike k)) = refl
+    each (at s (change j f)) = refl
+
+-- Demand 3, the half that accepts: where neither way is refused, both orders, read by the reading rule, are one table: the first set done, then the second redone by key.
+module _ (c : ℕ) (T : Table) (mx : ℕ) (x : List ℕ) (my : ℕ) (y : List ℕ) where
+  tested : (m : ℕ) (xs : List ℕ) → Fitted c m xs (keys T) → Tested c T (layerOf c m xs)
+  tested m xs F = record { formed = rw (sym (length-map T key)) (F .form .ordered); fitted = F .fit }
+
+  -- what one way leaves
+  moved-past : (k : ℕ) → Moves c (keys T) mx x my y k → Past c T (layerOf c mx x) (layerOf c my y)
+      → (r : Answer) (x′ : List ℕ) → Outcome c (keys T) mx x my y r x′ → r ≡ Done k
+      → MovedPast c T (layerOf c mx x) (layerOf c my y) mx x′
+  moved-past k M P r x′ o e = record {
+    holds = back;
+    formed = rw back (and-of (inOrder c rows (move X Y)) (leb (rowsAfter rows (move X Y)) 4096) (P .formed) (le-leb (rowsAfter rows (move X Y)) 4096 few));
+    fitted = rw back (P .fitted);
+    redone = rw back (P .redone);
+  }
+    where
+      X : Layer
+      X = layerOf c mx x
+
+      Y : Layer
+      Y = layerOf c my y
+
+      rows : ℕ
+      rows = length (read T Y)
+
+      back : layerOf c mx x′ ≡ move X Y
+      back =
+          let H = M .sides .mine .form .held in
+          ap (layerOf c mx) (o .1 ∙ ap (λ (a : Answer). written a (flat c (move X Y)) x) e)
+          ∙ read-back c rows (H .some) (H .columns) mx (move X Y) (drop (length (flat c (move X Y))) x)
+          (moved-entries X Y ∙ layer-length c mx x) (position.formed c rows (move X Y) (P .formed) .each)
+
+      few : rowsAfter rows (move X Y) ≤ 4096
+      few =
+          omega (
+            arith,
+            M .total,
+            read-length T Y (fit-of c T my y (M .sides .theirs) .fit),
+            length-map T key,
+            moved-adds X Y,
+            moved-strikes X Y,
+          )
+
+module _ (c : ℕ) (T : Table) (mx : ℕ) (x : List ℕ) (my : ℕ) (y : List ℕ) where
+  both-orders-keys : (r s : Answer) (x′ y′ : List ℕ) → Outcome c (keys T) mx x my y r x′ → Outcome c (keys T) my y mx x s y′
+      → (k l : ℕ) → r ≡ Done k → s ≡ Done l → BothOrders c T mx x x′ my y y′
+  both-orders-keys r s x′ y′ o p k l e f = record {
+    mine = mine;
+    theirs = theirs;
+    alike = rw (mine .holds, theirs .holds) (D .0 .alike);
+  }
+    where
+      M : Moves c (keys T) mx x my y k
+      M = moves c (keys T) mx x my y k (sym (o .0) ∙ e)
+
+      N : Moves c (keys T) my y mx x l
+      N = moves c (keys T) my y mx x l (sym (p .0) ∙ f)
+
+      D : Past c T (layerOf c mx x) (layerOf c my y) × Past c T (layerOf c my y) (layerOf c mx x)
+      D =
+          demand3 c T (layerOf c mx x) (layerOf c my y) (M .sides .mine .rising) (tested c T mx x my y mx x (M .sides .mine))
+          (tested c T mx x my y my y (M .sides .theirs)) (M .free)
+
+      mine : MovedPast c T (layerOf c mx x) (layerOf c my y) mx x′
+      mine = moved-past c T mx x my y k M (D .0) r x′ o e
+
+      theirs : MovedPast c T (layerOf c my y) (layerOf c mx x) my y′
+      theirs = moved-past c T my y mx x l N (D .1) s y′ p f
+
+  pub both-orders : (K : List ℕ) → keys T ≡ K → (r s : Answer) (x′ y′ : List ℕ)
+      → Outcome c K mx x my y r x′ → Outcome c K my y mx x s y′ → (k l : ℕ) → r ≡ Done k → s ≡ Done l → BothOrders c T mx x x′ my y y′
+  both-orders K h r s x′ y′ o p = both-orders-keys r s x′ y′ (rw (← h) at o) (rw (← h) at p)
+
+-- A layer past itself: 8 where it is not empty, accepted where it is.
+own : (e : Edit) → met (clash e e) ≡ true
+own (at s (add r)) = rw (eq-eqb (key r) (key r) refl)
+own (at s (strike k)) = rw (eq-eqb s s refl)
+own (at s (change j (to v))) = rw (eq-eqb s s refl, eq-eqb j j refl)
+
+own-place : (X : Layer) → 0 < length X → (conflict X X ≡ true) × (conflictPlace X X ≡ 0)
+unfolding conflict conflictPlace
+own-place [] h = absurd (omega arith)
+own-place (e ∷ X) h = (rw (own e), rw (own e))
+
+pub itself-refused : (c : ℕ) (K : List ℕ) (m : ℕ) (x : List ℕ) → PassesFour c K m x m x → 0 < m → (r : Answer) (x′ : List ℕ) → Outcome c K m x m x r x′
+    → (r ≡ Refused (refusal 8 0)) × (x′ ≡ x)
+itself-refused c K m x four h r x′ o =
+    let X = layerOf c m x in
+    let w = own-place X (omega (arith, layer-length c m x)) in
+    let e = (eight-exactly c K m x m x four r x′ o .1 (conflicting X X (w .0))) .0 ∙ ap (λ (p : ℕ). Refused (refusal 8 p)) (w .1) in
+    (e, o .1 ∙ ap (λ (a : Answer). written a (flat c (movedLayer c m x m x)) x) e)
+
+module _ (c : ℕ) (K x : List ℕ) (ok : argsOk c (length K) 0 (length x) ≡ true) (rises : ascending K ≡ true) where
+  empty-answer : moveAnswer c K 0 x 0 x ≡ Done 0
+  unfolding moveAnswer breaksForm formPlace fitPlace layerOf entriesAt conflict
+  empty-answer =
+      let n = args-held c (length K) 0 x ok .1 in
+      rw (ok, le-ltb 4096 ((length K + 0) - 0) (omega arith), rises, le-ltb 4096 ((((length K + 0) - 0) + 0) - 0) (omega arith))
+
+  pub itself-accepted : (r : Answer) (x′ : List ℕ) → Outcome c K 0 x 0 x r x′ → (r ≡ Done 0) × (x′ ≡ x)
+  unfolding flat layerOf entriesAt
+  itself-accepted r x′ o =
+      let e = o .0 ∙ empty-answer in
+      (e, o .1 ∙ ap (λ (a : Answer). written a (flat c (movedLayer c 0 x 0 x)) x) e)
