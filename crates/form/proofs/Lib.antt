@@ -4,3 +4,5 @@ pub mod Neighbours
 pub mod ByKind
 pub mod Place
 pub mod Formed
+pub mod Flat
+pub mod Accepted

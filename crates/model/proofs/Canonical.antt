@@ -3,23 +3,18 @@
 -- Assumes nothing.
 use mathlib.Core.Path.{_≡_, refl, sym, ap, _∙_}
 use mathlib.Core.Bool.{true}
-use mathlib.Core.List.{List, List·Memᴰ as Mem, Memᴰ·cast as mem-cast}
+use mathlib.Core.List.{List·Memᴰ as Mem, Memᴰ·cast as mem-cast}
 use Prim.Native.Nat.{ℕ}
-use lib.ListN.{length}
-use lib.Dec.{leb}
 use Rattle.order.specs.Lists.{count, ascending}
-use Rattle.order.proofs.Tests.{and-l}
 use Rattle.order.proofs.Pairs.{pairs-ext}
 use Rattle.order.proofs.Ascending.{AscFrom, below, asc-of}
 use Rattle.model.specs.Row.{Table, key, keys}
-use Rattle.model.specs.Limits.{mostRows}
-use Rattle.model.specs.Layer.{Deed, Edit, at, Layer, rowsAfter}
-use Rattle.model.specs.Form.{inOrder, keepsForm}
-use Rattle.model.specs.Fit.{fits}
+use Rattle.model.specs.Layer.{Edit, at, Layer}
 use Rattle.model.specs.Edits.{before}
 use Rattle.model.specs.Meaning.{keyOf, meaning}
 use Rattle.model.proofs.Edits.{before-asym}
-use Rattle.model.proofs.Fit.{Fit, good-of}
+use Rattle.model.proofs.Fit.{Fit}
+use Rattle.model.proofs.Demand3.{Tested, tested-good}
 use Rattle.model.proofs.Meaning.{meaning-mem, mem-meaning, position-of}
 
 -- two layers over one table mean the same for every key
@@ -31,21 +26,16 @@ edit-of : (T : Table) (L M : Layer) → AscFrom key 0 T → Fit T L → Fit T M 
 edit-of T L M a F G same (at s d) m =
     let k = keyOf (keys T) (at s d) in
     let w = meaning-mem (keys T) M k d (rw (sym (same k)) (mem-meaning (keys T) L k s d m refl)) in
-    mem-cast {b = at (w .0) d} (ap (λ (p : ℕ). at p d)
-    (sym (position-of T L a F s d m) ∙ (ap (λ (l : ℕ). count (below key l) T) (sym (w .2)) ∙ position-of T M a G (w .0) d (w .1)))) (w .1)
+    let sp : s ≡ w .0 =
+    sym (position-of T L a F s d m) ∙ (ap (λ (l : ℕ). count (below key l) T) (sym (w .2)) ∙ position-of T M a G (w .0) d (w .1)) in
+    mem-cast {b = at (w .0) d} (ap (λ (p : ℕ). at p d) sp) (w .1)
 
 pub canonical : (T : Table) (L M : Layer) → AscFrom key 0 T → Fit T L → Fit T M → MeanAlike T L M → L ≡ M
 canonical T L M a F G same =
     pairs-ext before before-asym L M (F .sorted) (G .sorted) (edit-of T L M a F G same) (edit-of T M L a G F (λ k. sym (same k)))
 
 -- the same over the paper's tests
-pub canonical-tests : (c : ℕ) (T : Table) (L M : Layer) → ascending (keys T) ≡ true
-    → keepsForm c (length T) L ≡ true → fits (keys T) L ≡ true → keepsForm c (length T) M ≡ true → fits (keys T) M ≡ true
+pub canonical-tests : (c : ℕ) (T : Table) (L M : Layer) → ascending (keys T) ≡ true → Tested c T L → Tested c T M
     → MeanAlike T L M → L ≡ M
-canonical-tests c T L M t fL hL fM hM same = canonical T L M a (fit L fL hL) (fit M fM hM) same
-  where
-    a : AscFrom key 0 T
-    a = asc-of key T t
-
-    fit : (N : Layer) → keepsForm c (length T) N ≡ true → fits (keys T) N ≡ true → Fit T N
-    fit N f h = (good-of c T N a (and-l (inOrder c (length T) N) (leb (rowsAfter (length T) N) mostRows) f) h) .fit
+canonical-tests c T L M t GL GM same =
+    canonical T L M (asc-of key T t) (tested-good c T L t GL .fit) (tested-good c T M t GM .fit) same

@@ -11,6 +11,8 @@ pub mod Redo
 pub mod Demand3
 pub mod Column
 pub mod Origin
+pub mod Edited
+pub mod Joined
 pub mod Examples
 pub mod Position
 pub mod Meaning

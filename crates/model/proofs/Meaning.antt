@@ -2,7 +2,7 @@
 -- So for each key it means nothing, an added row, a strike, an added row and a strike, or changes of cells in column order.
 -- Assumes nothing.
 use mathlib.Core.Path.{_≡_, refl, sym, ap, _∙_}
-use mathlib.Core.Logic.{_⊎_, inl, inr, ⊎-elim}
+use mathlib.Core.Logic.{_⊎_, inl, inr}
 use mathlib.Core.Bool.{Bool, true, false, cond, true≢false}
 use mathlib.Core.List.{
   List,
@@ -15,12 +15,12 @@ use mathlib.Core.List.{
   List·Memᴰ·not-nil as not-nil,
   Memᴰ·cast as mem-cast,
 }
-use Prim.Native.Nat.{ℕ, zero, suc, _+_, _≤_, _<_}
+use Prim.Native.Nat.{ℕ}
 use native.Mathlib.Omega.{arith}
 use lib.ListN.{getD}
 use lib.Dec.{eqb}
 use borrow.Author.Tests.{eqb-true, eq-eqb}
-use Rattle.order.specs.Lists.{count, gather}
+use Rattle.order.specs.Lists.{count}
 use Rattle.order.proofs.Members.{gather-mem, mem-gather}
 use Rattle.order.proofs.Tests.{tests, not-passed}
 use Rattle.order.proofs.Pairs.{AllPairs}
@@ -66,7 +66,8 @@ module _ (T : Table) (L : Layer) (a : AscFrom key 0 T) (F : Fit T L) where
   position-of s (change j e) m = let w = F .changes s j e m in row-position s (w .0) (getD (keys T) s 0) (w .1) (sym (key-of (w .1)))
 
   -- so two edits that concern one key stand at one position
-  pub one-position : (p s : ℕ) (d e : Deed) → Mem (at p d) L → Mem (at s e) L → keyOf (keys T) (at p d) ≡ keyOf (keys T) (at s e) → p ≡ s
+  pub one-position : (p s : ℕ) (d e : Deed) → Mem (at p d) L → Mem (at s e) L
+      → keyOf (keys T) (at p d) ≡ keyOf (keys T) (at s e) → p ≡ s
   one-position p s d e m n k =
       sym (position-of p d m) ∙ (ap (λ (l : ℕ). count (below key l) T) k ∙ position-of s e n)
 
@@ -118,10 +119,12 @@ pub data Meant (g : ℕ) : List Deed → Type 0 where
   adds : (r : Row) → key r ≡ g → Meant g (add r ∷ [])
   strikes : Meant g (strike g ∷ [])
   replaces : (r : Row) → key r ≡ g → Meant g (add r ∷ strike g ∷ [])
-  changes : (ds : List Deed) → ((d : Deed) → Mem d ds → (j : ℕ) × (e : CellEdit) × (d ≡ change j e)) → AllPairs deedBefore ds → Meant g ds
+  changes : (ds : List Deed) → ((d : Deed) → Mem d ds → (j : ℕ) × (e : CellEdit) × (d ≡ change j e)) → AllPairs deedBefore ds
+      → Meant g ds
 
 meant-of : (g : ℕ) (ds : List Deed) → AllPairs deedBefore ds → ((r : Row) → Mem (add r) ds → key r ≡ g)
-    → ((k : ℕ) → Mem (strike k) ds → k ≡ g) → ((r : Row) (j : ℕ) (e : CellEdit) → Mem (add r) ds → Mem (change j e) ds → ⊥) → Meant g ds
+    → ((k : ℕ) → Mem (strike k) ds → k ≡ g) → ((r : Row) (j : ℕ) (e : CellEdit) → Mem (add r) ds → Mem (change j e) ds → ⊥)
+    → Meant g ds
 meant-of g [] o hA hS hC = nothing
 meant-of g (add r ∷ []) o hA hS hC = adds r (hA r (here refl))
 meant-of g (add r ∷ add q ∷ ds) o hA hS hC =

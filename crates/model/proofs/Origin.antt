@@ -20,7 +20,7 @@ use native.Mathlib.Omega.{arith}
 use lib.ListN.{length, getD, replicate, length-replicate}
 use lib.Dec.{eqb}
 use Rattle.order.proofs.Members.{map-mem}
-use Rattle.order.proofs.Ascending.{At, top, deep, at-mem, at-getD}
+use Rattle.order.proofs.Ascending.{At, top, deep, at-mem, at-getD, getD-at}
 use Rattle.order.proofs.Edited.{at-map}
 use Rattle.model.specs.Row.{Row, Table}
 use Rattle.model.specs.Layer.{Deed, add, strike, change, Edit, at, Layer, addedBy, addsAt, struck, changed}
@@ -124,3 +124,15 @@ back-row T L i q n =
       stands = stands-from (length T) 0 (replicate (length T) 0) L (omega (arith, length-replicate {A = ℕ} (length T) 0)) (w .0) (at-mem (w .1));
       row = w .2;
     })
+
+-- the entry behind an added row adds it
+pub added-at : (T : Table) (L : Layer) (q : Row) (i : ℕ) → RowOrigin T L q (added i) → (p : ℕ) × At (at p (add q)) i 0 L
+added-at T L q i O =
+    let w = O .stands in
+    let r : q ≡ w .1 = O .row ∙ ap addedRow (at-getD (at 0 (add [])) (w .2)) in
+    (w .0, rw (r) (w .2))
+
+-- and the row behind a base row is that with its changes
+pub base-at : (T : Table) (L : Layer) (q : Row) (s : ℕ) → RowOrigin T L q (base s)
+    → (b : Row) × At b s 0 T × (struck s L ≡ false) × (q ≡ changed s L b)
+base-at T L q s O = (getD T s [], getD-at T s [] (O .stands .0), O .stands .1, O .row)

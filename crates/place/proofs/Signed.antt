@@ -24,6 +24,10 @@ fits-small (negsuc a) h = record { sfits = omega arith }
 pub bits-small : (z : ℤ) → natAbs z ≤ 4608 → toZ w64 (ofZ w64 z) ≡ z
 bits-small z h = toZ-ofZ (fits-small z h)
 
+-- the same of an integer that is known by another name
+pub read-back : (r z : ℤ) → r ≡ z → natAbs z ≤ 512 → toZ w64 (ofZ w64 r) ≡ z
+read-back r z e h = rw e (bits-small z (omega arith))
+
 abs-less : (a b : ℕ) → natAbs (subℕ a b) ≤ a + b
 abs-less a b = go (ltb a b) refl
   where

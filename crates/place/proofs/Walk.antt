@@ -202,4 +202,4 @@ module _ (c n : ℕ) (L : Layer) (r : ℕ) where
 pub walk-back : (c n : ℕ) (L : Layer) (r : ℕ) → inOrder c n L ≡ true → r < rowsAfter n L → originFrom 0 r L ≡ back n L r
 walk-back c n L r o h =
     walks c n L r [] L r
-    (record { ok = o; below = h; split = refl; lies = λ e m. absurd (not-nil m); comes = omega arith; })
+    (record { ok = o; below = h; split = refl; lies = λ e m. absurd (not-nil m); comes = omega arith })

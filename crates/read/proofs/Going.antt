@@ -45,8 +45,8 @@ pub record Met (c j : ℕ) (raw : List ℕ) (from p kind first own : ℕ) : Type
 pub record Shows (c m : ℕ) (raw xs : List ℕ) (j : ℕ) (out₀ : List ℕ) (i from o : ℕ) (out ys : List ℕ) (t : ℕ) : Type 0 where
   pub ready : Ready j (length xs) t (map editOf (entriesAt c (m - (i + 1)) (from + (c + 2)) raw))
   pub front :
-    Front (runsFrom j 0 xs (layerOf c m raw)) out₀ o out
-    (ys ++ runsFrom j t xs (map editOf (entriesAt c (m - (i + 1)) (from + (c + 2)) raw)))
+      Front (runsFrom j 0 xs (layerOf c m raw)) out₀ o out
+      (ys ++ runsFrom j t xs (map editOf (entriesAt c (m - (i + 1)) (from + (c + 2)) raw)))
 
 module _ {c m : ℕ} {raw xs : List ℕ} {j : ℕ} {out₀ : List ℕ} {i from s o : ℕ} {out : List ℕ}
     (g : Going c m raw xs j out₀ i from s o out) (h : i < m) where
@@ -100,8 +100,8 @@ module _ {c m : ℕ} {raw xs : List ℕ} {j : ℕ} {out₀ : List ℕ} {i from s
     on-change na ns k =
         let q : entryAt c from raw .kind ≡ j = sym (w .kind-is) ∙ k in
         let f =
-            entry (at (entryAt c from raw .pos) (change j (to (getD (entryAt c from raw .vals) 0 0))))
-            (rw (q, ne-eqb j ADD (λ z. na (k ∙ z)), ne-eqb j STRIKE (λ z. ns (k ∙ z)))) in
+        entry (at (entryAt c from raw .pos) (change j (to (getD (entryAt c from raw .vals) 0 0))))
+        (rw (q, ne-eqb j ADD (λ z. na (k ∙ z)), ne-eqb j STRIKE (λ z. ns (k ∙ z)))) in
         let r = f .0 .0 (eq-eqb j j refl) in
         rw (w .pos-is, w .first-is, add-one)
         (r .0, r .1, record { ready = r .2; front = rw append-snoc (rw (eq-eqb j j refl) at (f .1)) })
@@ -112,8 +112,8 @@ module _ {c m : ℕ} {raw xs : List ℕ} {j : ℕ} {out₀ : List ℕ} {i from s
     on-other na ns nj =
         let n : eqb j kind ≡ false = ne-eqb j kind (λ z. nj (sym z)) in
         let f =
-            entry (at (entryAt c from raw .pos) (change kind (to (getD (entryAt c from raw .vals) 0 0))))
-            (rw (← w .kind-is, ne-eqb kind ADD na, ne-eqb kind STRIKE ns)) in
+        entry (at (entryAt c from raw .pos) (change kind (to (getD (entryAt c from raw .vals) 0 0))))
+        (rw (← w .kind-is, ne-eqb kind ADD na, ne-eqb kind STRIKE ns)) in
         record { ready = f .0 .1 n; front = rw n at (f .1) }
 
 -- at the loop's start
@@ -138,7 +138,7 @@ module _ {c m : ℕ} {raw xs : List ℕ} {j : ℕ} {out₀ : List ℕ} {i from s
   unfolding runsFrom
   last-front =
       let e : runsFrom j s xs (left c m i from raw) ≡ slice s (length xs) xs ++ [] =
-          ap (runsFrom j s xs) (edits-end c m i from raw h) ∙ rw (take-length xs) (sym (append-nil (drop s xs))) in
+      ap (runsFrom j s xs) (edits-end c m i from raw h) ∙ rw (take-length xs) (sym (append-nil (drop s xs))) in
       subst (λ (l : List ℕ). Front (runsFrom j 0 xs (layerOf c m raw)) out₀ o out l) e (g .front)
 
   pub last-room : o + length (slice s (length xs) xs) ≤ length out
@@ -146,7 +146,7 @@ module _ {c m : ℕ} {raw xs : List ℕ} {j : ℕ} {out₀ : List ℕ} {i from s
 
   pub ended : {r : ℕ} {new : List ℕ} → Readable c m raw xs j (length out₀) → Wrote (slice s (length xs) xs) out o r new
       → (length new ≡ length out₀) × (r ≡ length (readColumn j xs (layerOf c m raw)))
-        × (new ≡ readColumn j xs (layerOf c m raw) ++ drop (length (readColumn j xs (layerOf c m raw))) out₀)
+      × (new ≡ readColumn j xs (layerOf c m raw) ++ drop (length (readColumn j xs (layerOf c m raw))) out₀)
   ended {r} {new} a w =
       let f = front-more _ out₀ out new (slice s (length xs) xs) [] o r (g .fits) last-front w in
       let e = front-end _ out₀ new r f in

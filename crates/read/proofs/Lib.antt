@@ -1,5 +1,6 @@
 pub mod Same
 pub mod Rows
-pub mod Formed
+pub mod Ready
 pub mod Writing
 pub mod Going
+pub mod Answers

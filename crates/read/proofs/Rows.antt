@@ -37,7 +37,7 @@ runs-length j s xs (at p (change i e) ∷ L) r =
         → (Ready j (length xs) (suc p) L → length (runsFrom j (suc p) xs L) + suc p + count isStrike L ≡ length xs + count isAdd L)
         → (Ready j (length xs) s L → length (runsFrom j s xs L) + s + count isStrike L ≡ length xs + count isAdd L)
         → length (cond b (slice s p xs ++ (done e (getD xs p 0) ∷ runsFrom j (suc p) xs L)) (runsFrom j s xs L)) + s + (0 + count isStrike L)
-          ≡ length xs + (0 + count isAdd L)
+        ≡ length xs + (0 + count isAdd L)
     by true h f g =
         let r′ = r .0 h in
         let k : p ≤ length xs = omega (arith, r′ .1) in

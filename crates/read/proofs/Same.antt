@@ -166,7 +166,7 @@ same-from j s xs (at p (strike k) ∷ L) r =
     let l = ready-later j (length xs) (suc p) L (r .2) in
     rw (same-from j (suc p) xs L (r .2))
     (sym (run-to j xs (at p (strike k) ∷ L) s p (r .0) (omega (arith, r .1)) (λ w. omega arith, later-less j p (suc p) L (omega arith) l)
-      ∙ ap (λ (t : List ℕ). slice s p xs ++ t) (at-strike j p L k xs (r .1) l)))
+    ∙ ap (λ (t : List ℕ). slice s p xs ++ t) (at-strike j p L k xs (r .1) l)))
 same-from j s xs (at p (change i e) ∷ L) r =
     by (eqb j i) refl (λ z. same-from j (suc p) xs L z) (λ z. same-from j s xs L z)
   where
@@ -179,7 +179,7 @@ same-from j s xs (at p (change i e) ∷ L) r =
         let l = ready-later j (length xs) (suc p) L (r′ .2) in
         rw (f (r′ .2))
         (sym (run-to j xs (at p (change i e) ∷ L) s p (r′ .0) (omega (arith, r′ .1)) (λ w. omega arith, later-less j p (suc p) L (omega arith) l)
-          ∙ ap (λ (t : List ℕ). slice s p xs ++ t) (at-change j p L i e xs h (r′ .1) l)))
+        ∙ ap (λ (t : List ℕ). slice s p xs ++ t) (at-change j p L i e xs h (r′ .1) l)))
     by false h f g = g (r .1 h) ∙ sym (without j (at p (change i e)) L s (drop s xs) (λ q z. silent-other j q p i e h))
 
 pub same : (j : ℕ) (xs : List ℕ) (L : Layer) → Ready j (length xs) 0 L → runsFrom j 0 xs L ≡ readColumn j xs L

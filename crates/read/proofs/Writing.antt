@@ -41,12 +41,12 @@ wrote-one ys d new o r v w h =
     let zs = ys ++ (v ∷ []) in
     let l : length zs ≡ length ys + 1 = length-append ys (v ∷ []) in
     let q : paste d o ys (length ys) ≡ paste d o zs (length ys) =
-        ap (λ (t : List ℕ). take o d ++ t ++ drop (o + length ys) d) (take-length ys ∙ sym (take-append-seam ys (v ∷ []))) in
+    ap (λ (t : List ℕ). take o d ++ t ++ drop (o + length ys) d) (take-length ys ∙ sym (take-append-seam ys (v ∷ []))) in
     record {
       end = omega (arith, w .end);
       numbers =
-        copy-more new d zs o (length ys) r v (w .end) (w .numbers ∙ q) (omega arith) (omega arith) (sym (getD-append-seam ys v [] 0))
-        ∙ ap (paste d o zs) (sym l);
+          copy-more new d zs o (length ys) r v (w .end) (w .numbers ∙ q) (omega arith) (omega arith) (sym (getD-append-seam ys v [] 0))
+          ∙ ap (paste d o zs) (sym l);
     }
 
 -- what is left to write begins with ys: there is room for it
@@ -70,13 +70,13 @@ front-more t d₀ d new ys rest o r f g w =
       size = rw (w .numbers) (l ∙ g .size);
       done = rw (w .end, w .numbers) (omega arith);
       kept =
-        rw (w .end, w .numbers)
-        (drop-paste d o ys (length ys) (g .done) (omega arith)
+          rw (w .end, w .numbers)
+          (drop-paste d o ys (length ys) (g .done) (omega arith)
           ∙ sym (drop-drop (length ys) o d)
           ∙ ap (drop (length ys)) (g .kept)
           ∙ drop-drop (length ys) o d₀);
       split =
-        rw (w .end, w .numbers, take-paste d o ys (length ys) (g .done) (omega arith), take-length ys, append-assoc (take o d) ys rest) (g .split);
+          rw (w .end, w .numbers, take-paste d o ys (length ys) (g .done) (omega arith), take-length ys, append-assoc (take o d) ys rest) (g .split);
     }
 
 -- all is written

@@ -7,17 +7,23 @@ use Rattle.model.specs.Calls.{shownColumn}
 use Rattle.read.specs.Runs.{Wrote, Readable}
 use Rattle.read.proofs.Writing.{wrote-none}
 use Rattle.read.proofs.Going.{
-  Going, Met, Shows, near, passed, fitting, on-add, on-strike, on-change, on-other, set-out, last-row, last-room, ended}
-use borrow.Author.Needs.{needs}
+  Going,
+  Met,
+  Shows,
+  near,
+  passed,
+  fitting,
+  on-add,
+  on-strike,
+  on-change,
+  on-other,
+  set-out,
+  last-row,
+  last-room,
+  ended,
+}
 use Rattle.read.proofs.read_part.Statement.{statement}
 use Rattle.read.proofs.read_part.Tie as tie
-use Rattle.read.proofs.read_part.Reads as reads
-use Rattle.read.proofs.read_part.Lts as lts
-use Rattle.form.proofs.kind_at.Reads as kind-at-reads
-use Rattle.form.proofs.pos_at.Reads as pos-at-reads
-use Rattle.form.proofs.value_at.Reads as value-at-reads
-use Rattle.read.proofs.show_rows.Reads as show-rows-reads
-use Rattle.read.proofs.show_rows_and.Reads as show-rows-and-reads
 
 abbrev Inv-loop : tie.InvT-loop
 Inv-loop c m layer base j out₀ i₀ at₀ s₀ o₀ out i at s o = Going c m layer base j out₀ i at s o out
@@ -28,9 +34,9 @@ abbrev μ-loop : tie.MeasureT-loop
 -- what the calls have read is the entry
 met : (c : tie.After-value-at2 Inv-loop μ-loop)
     → let l = c .before .before .before .before .before in
-      let a = l .before .before .before .before .args in
-      Met (a .c) (a .j) (a .layer .now) (l .loop .at) (c .before .before .before .pos-at .result) (c .before .before .kind-at .result)
-        (c .before .value-at .result) (c .value-at2 .result)
+    let a = l .before .before .before .before .args in
+    Met (a .c) (a .j) (a .layer .now) (l .loop .at) (c .before .before .before .pos-at .result) (c .before .before .kind-at .result)
+    (c .before .value-at .result) (c .value-at2 .result)
 met c =
     record {
       pos-is = c .before .before .before .pos-at .ensures;
@@ -49,141 +55,117 @@ module _ (c : tie.After-value-at2 Inv-loop μ-loop) where
 -- what stands in the buffer at the end
 finished : (c : tie.After-slice-known5 Inv-loop μ-loop)
     → let a = c .before .before .before .before .before .before .before .before .before .args in
-      let t = shownColumn (a .c) (a .m) (a .layer .now) (a .base .now) (a .j) in
-      let f = c .before .before .show-rows2 in
-      (length (f .last .1 .1 .1 .0) ≡ length (a .out .now)) × (f .result ≡ length t)
-        × (f .last .1 .1 .1 .0 ≡ t ++ drop (length t) (a .out .now))
+    let t = shownColumn (a .c) (a .m) (a .layer .now) (a .base .now) (a .j) in
+    let f = c .before .before .show-rows2 in
+    (length (f .last .1 .1 .1 .0) ≡ length (a .out .now)) × (f .result ≡ length t)
+    × (f .last .1 .1 .1 .0 ≡ t ++ drop (length t) (a .out .now))
 finished c =
     let l = c .before .before .before .before .before in
     ended (l .loop .inv) (c .before .before .before .before .loop-test .left) (l .before .before .before .before .pre) (c .before .before .show-rows2 .ensures)
 
--- src/lib.rt:42:5
 loop-holds : tie.Need-loop-holds Inv-loop μ-loop
 loop-holds c = set-out (c .before .before .before .pre)
 
--- src/lib.rt:43:17
 pos-at-requires : tie.Need-pos-at-requires Inv-loop μ-loop
 pos-at-requires c κs = near (c .before .loop .inv) (c .loop-test .taken)
 
--- src/lib.rt:44:13
 kind-at-requires : tie.Need-kind-at-requires Inv-loop μ-loop
 kind-at-requires c κs = near (c .before .before .loop .inv) (c .before .loop-test .taken)
 
--- src/lib.rt:45:13
 value-at-requires : tie.Need-value-at-requires Inv-loop μ-loop
 value-at-requires c κs =
     let st = c .before .before .before .before .before .before .before in
     (near (c .before .before .before .loop .inv) (c .before .before .loop-test .taken), omega (arith, st .pre .column))
 
--- src/lib.rt:46:13
 value-at-requires-2 : tie.Need-value-at-requires-2 Inv-loop μ-loop
 value-at-requires-2 c κs =
     let st = c .before .before .before .before .before .before .before .before in
     (near (c .before .before .before .before .loop .inv) (c .before .before .before .loop-test .taken), st .pre .column)
 
--- src/lib.rt:47:15
 add-at : tie.Need-add-at Inv-loop μ-loop
 add-at c = omega (arith, near (at-loop c .loop .inv) (inside c), inside c)
 
--- src/lib.rt:47:9
 add-at-2 : tie.Need-add-at-2 Inv-loop μ-loop
 add-at-2 c = omega (arith, near (at-loop c .loop .inv) (inside c), inside c)
 
--- src/lib.rt:48:9
 add-i : tie.Need-add-i Inv-loop μ-loop
 add-i c = omega (arith, near (at-loop c .loop .inv) (inside c), inside c)
 
--- src/lib.rt:50:13
 show-rows-and-requires : tie.Need-show-rows-and-requires Inv-loop μ-loop
 show-rows-and-requires c κs =
     let d = c .before .before in
     let w = on-add (at-loop d .loop .inv) (inside d) (met d) (c .before .if1 .taken) in
     (w .0, w .1, fitting (at-loop d .loop .inv) (inside d) (w .2))
 
--- src/lib.rt:42:5
 loop-less : tie.Need-loop-less Inv-loop μ-loop
 loop-less c = let d = c .before .before .before .before .before in omega (arith, inside d)
 
--- src/lib.rt:42:5
 loop-again : tie.Need-loop-again Inv-loop μ-loop
 loop-again c =
     let d = c .before .before .before .before .before in
     let w = on-add (at-loop d .loop .inv) (inside d) (met d) (c .before .before .before .before .if1 .taken) in
     passed (at-loop d .loop .inv) (inside d) (w .2) (c .before .before .show-rows-and .ensures)
 
--- src/lib.rt:53:13
 show-rows-requires : tie.Need-show-rows-requires Inv-loop μ-loop
 show-rows-requires c κs =
     let d = c .before .before .before in
     let w = on-strike (at-loop d .loop .inv) (inside d) (met d) (c .before .before .if1 .left) (c .before .if2 .taken) in
     (w .0, omega (arith, w .1), fitting (at-loop d .loop .inv) (inside d) (w .2))
 
--- src/lib.rt:54:17
 add-s : tie.Need-add-s Inv-loop μ-loop
 add-s c =
     let d = c .before .before .before .before .before .before in
     let w = on-strike (at-loop d .loop .inv) (inside d) (met d) (c .before .before .before .before .before .if1 .left) (c .before .before .before .before .if2 .taken) in
     omega (arith, w .1, at-loop d .before .before .before .before .good .1 .1 .1 .0)
 
--- src/lib.rt:42:5
 loop-less-2 : tie.Need-loop-less-2 Inv-loop μ-loop
 loop-less-2 c = let d = c .before .before .before .before .before .before in omega (arith, inside d)
 
--- src/lib.rt:42:5
 loop-again-2 : tie.Need-loop-again-2 Inv-loop μ-loop
 loop-again-2 c =
     let d = c .before .before .before .before .before .before in
     let w = on-strike (at-loop d .loop .inv) (inside d) (met d) (c .before .before .before .before .before .if1 .left) (c .before .before .before .before .if2 .taken) in
     passed (at-loop d .loop .inv) (inside d) (w .2) (c .before .before .show-rows .ensures)
 
--- src/lib.rt:56:13
 show-rows-and-requires-2 : tie.Need-show-rows-and-requires-2 Inv-loop μ-loop
 show-rows-and-requires-2 c κs =
     let d = c .before .before .before .before in
     let w = on-change (at-loop d .loop .inv) (inside d) (met d) (c .before .before .before .if1 .left) (c .before .before .if2 .left) (c .before .if3 .taken) in
     (w .0, omega (arith, w .1), fitting (at-loop d .loop .inv) (inside d) (w .2))
 
--- src/lib.rt:57:17
 add-s-2 : tie.Need-add-s-2 Inv-loop μ-loop
 add-s-2 c =
     let d = c .before .before .before .before .before .before .before in
     let w = on-change (at-loop d .loop .inv) (inside d) (met d) (c .before .before .before .before .before .before .if1 .left) (c .before .before .before .before .before .if2 .left) (c .before .before .before .before .if3 .taken) in
     omega (arith, w .1, at-loop d .before .before .before .before .good .1 .1 .1 .0)
 
--- src/lib.rt:42:5
 loop-less-3 : tie.Need-loop-less-3 Inv-loop μ-loop
 loop-less-3 c = let d = c .before .before .before .before .before .before .before in omega (arith, inside d)
 
--- src/lib.rt:42:5
 loop-again-3 : tie.Need-loop-again-3 Inv-loop μ-loop
 loop-again-3 c =
     let d = c .before .before .before .before .before .before .before in
     let w = on-change (at-loop d .loop .inv) (inside d) (met d) (c .before .before .before .before .before .before .if1 .left) (c .before .before .before .before .before .if2 .left) (c .before .before .before .before .if3 .taken) in
     passed (at-loop d .loop .inv) (inside d) (w .2) (c .before .before .show-rows-and2 .ensures)
 
--- src/lib.rt:42:5
 loop-less-4 : tie.Need-loop-less-4 Inv-loop μ-loop
 loop-less-4 c = let d = c .before .before .before in omega (arith, inside d)
 
--- src/lib.rt:42:5
 loop-again-4 : tie.Need-loop-again-4 Inv-loop μ-loop
 loop-again-4 c =
     let d = c .before .before .before in
     let w = on-other (at-loop d .loop .inv) (inside d) (met d) (c .before .before .if1 .left) (c .before .if2 .left) (c .if3 .left) in
     passed (at-loop d .loop .inv) (inside d) w (wrote-none _ _)
 
--- src/lib.rt:60:5
 show-rows-requires-2 : tie.Need-show-rows-requires-2 Inv-loop μ-loop
 show-rows-requires-2 c κs =
     let l = c .before .before in
     let t = c .before .loop-test .left in
     (last-row (l .loop .inv) t, omega arith, last-room (l .loop .inv) t)
 
--- src/lib.rt:32:1
 same-length : tie.Need-same-length Inv-loop μ-loop
 same-length c = finished c .0
 
--- src/lib.rt:32:1
 returns : tie.Need-returns Inv-loop μ-loop
 returns c = let f = finished c in (f .1, f .2)
 

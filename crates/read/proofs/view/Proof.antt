@@ -1,0 +1,76 @@
+use native.Mathlib.Omega.{arith}
+use mathlib.Core.Path.{_≡_, refl, sym, ap, _∙_}
+use lib.ListN.{length, take}
+use lib.Seq.{length-take-le}
+use Rattle.model.specs.declared.Answer.the-variants.{Done}
+use Rattle.model.specs.Calls.{readAnswer, viewPart}
+use Rattle.read.proofs.Answers.{Finished, done, front-viewed, base-viewed, none-viewed}
+use borrow.Author.Needs.{needs}
+use Rattle.read.proofs.view.Statement.{statement}
+use Rattle.read.proofs.view.Tie as tie
+
+answer-requires : tie.Need-answer-requires
+answer-requires c κs = search needs
+
+enum-known-a : tie.Need-enum-known-a
+enum-known-a c = search needs
+
+-- the answer is done, with so many rows
+answered : (c : tie.After-known-told)
+    → let a = c .before .before .before .before .before .before .before .args in
+    readAnswer (a .c) (a .m) (a .layer .now) (a .base .now) (a .j) (length (a .out .now)) ≡ Done (c .before .a .given .0 .0)
+answered c = sym (c .before .before .before .answer .ensures) ∙ c .before .a .given .1
+
+finished : (c : tie.After-known-told)
+    → let a = c .before .before .before .before .before .before .before .args in
+    Finished (a .c) (a .m) (a .layer .now) (a .base .now) (a .j) (length (a .out .now)) (c .before .a .given .0 .0)
+finished c =
+    let a = c .before .before .before .before .before .before .before .args in
+    done (a .c) (a .m) (a .layer .now) (a .base .now) (a .j) (length (a .out .now)) (c .before .a .given .0 .0) (answered c)
+
+touched-requires : tie.Need-touched-requires
+touched-requires c κs = finished c .readable .held
+
+slice-aggregate-result : tie.Need-slice-aggregate-result
+slice-aggregate-result c =
+    let d = c .before .before .before in
+    let a = d .before .before .before .before .before .before .before .args in
+    sym (length-take-le (d .before .a .given .0 .0) (a .out .now) (finished d .within))
+
+returns : tie.Need-returns
+returns c =
+    let d = c .before .before .before in
+    let a = d .before .before .before .before .before .before .before .args in
+    rw (front-viewed (a .c) (a .m) (a .layer .now) (a .base .now) (a .j) (length (a .out .now)) _ (answered d) (sym (c .before .before .touched .ensures) ∙ c .before .if1 .taken)) (refl, refl)
+
+enum-told : tie.Need-enum-told
+enum-told c = search needs
+
+slice-aggregate-result-2 : tie.Need-slice-aggregate-result-2
+slice-aggregate-result-2 c = refl
+
+returns-2 : tie.Need-returns-2
+returns-2 c =
+    let d = c .before .before in
+    let a = d .before .before .before .before .before .before .before .args in
+    rw (base-viewed (a .c) (a .m) (a .layer .now) (a .base .now) (a .j) (length (a .out .now)) _ (answered d) (sym (c .before .touched .ensures) ∙ c .if1 .left)) (refl, refl)
+
+returns-3 : tie.Need-returns-3
+returns-3 c =
+    let e = c .before in
+    let a = e .before .before .before .before .before .before .args in
+    rw (none-viewed (a .c) (a .m) (a .layer .now) (a .base .now) (a .j) (length (a .out .now)) _ (sym (e .before .before .answer .ensures) ∙ e .enum-told .given .1)) (refl, refl)
+
+pub view-spec : {M : Type 1} → statement M
+view-spec =
+    tie.close
+    (tie.spec
+    answer-requires
+    enum-known-a
+    touched-requires
+    slice-aggregate-result
+    returns
+    enum-told
+    slice-aggregate-result-2
+    returns-2
+    returns-3)

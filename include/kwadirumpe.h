@@ -1,0 +1,112 @@
+/* Kwadirumpe: layers over a replication card's multicast group table.
+ *
+ * Link with the archive that `rt staticlib card` writes: target/staticlib/libcard.a
+ *
+ * A TABLE has c columns (1 to 8) of unsigned 64-bit numbers and n rows (0 to 4,096). Column 0 is the key, the group number,
+ * strictly ascending. Columns are lent one at a time, as a pointer and a length in numbers; n is that length.
+ *
+ * A LAYER is m entries (0 to 512) in a slice of numbers, c + 2 numbers each:
+ *     position, kind, value 0, .. value c-1
+ *     kind 65535  add      values: the row
+ *     kind 65534  strike   the struck key, then zeros
+ *     kind j      change   of column j, 1 to c-1: the new value, then zeros
+ * You start with m = 0 and a slice of any contents. Each edit answers the new m, which you keep.
+ * The room of a slice is the smaller of 512 and the whole entries that it can hold.
+ *
+ * EVERY CALL ANSWERS EVERY INPUT. number 0: accepted, and value is the result. Else number is the refusal and value its place,
+ * and no lent number was changed. Refusals are tested in number order.
+ *
+ *      1  an argument passes its limit: c not 1 to 8, n over 4,096, m over 512 or over its slice, a column number
+ *         not below c, a row not c long, a position past n
+ *      2  a layer breaks form       place: the least entry at fault, or m for the row total
+ *      3  the key column is not strictly ascending
+ *      4  a layer does not fit the keys   place: the least entry at fault
+ *      5  row number not below the shown rows
+ *      6  change of column 0
+ *      7  key is shown already
+ *      8  conflict                  place: the lowest entry of X in any conflict
+ *      9  the result needs more entries than the room
+ *     10  the result passes 4,096 rows
+ *     11  buffer shorter than what is to be written
+ *
+ * For the second of two layers (W, Y) 1,000 is added to the place of 2 and 4. Other places are 0.
+ *
+ * MEMORY. A const pointer is only read, and may be shared by calls that run at once. A pointer that is not const must be
+ * yours alone during the call, and overlap nothing else that the call is lent. A length of 0 takes any pointer that is not null
+ * and is aligned. Nothing is kept after a call, nothing is allocated. kw_combine uses about 32 KiB of stack.
+ */
+#ifndef KWADIRUMPE_H
+#define KWADIRUMPE_H
+
+#include <stddef.h>
+#include <stdint.h>
+
+#ifdef __cplusplus
+extern "C" {
+#endif
+
+#define KW_MOST_COLUMNS 8
+#define KW_MOST_ENTRIES 512
+#define KW_MOST_ROWS 4096
+#define KW_ADD 65535
+#define KW_STRIKE 65534
+/* kw_back: an added entry number i is KW_ADDED + i */
+#define KW_ADDED 65536
+
+struct kw_answer {
+    uint64_t number;
+    uint64_t value;
+};
+
+struct kw_shift {
+    uint64_t number;
+    int64_t value;
+};
+
+/* Does the layer keep form and fit the key column? Refusals 1 2 3 4. value: 0. */
+struct kw_answer kw_fit(size_t c, size_t m, const uint64_t *layer, size_t layer_len, const uint64_t *keys, size_t n);
+
+/* Reads column j through the layer into the front of out; the rest of out stays. Refusals 1 2 11. value: the row count. */
+struct kw_answer kw_read(size_t c, size_t m, const uint64_t *layer, size_t layer_len, const uint64_t *base, size_t n,
+                         size_t j, uint64_t *out, size_t out_len);
+
+/* After a read, where to look: number 0, a part of the base column (all of it where the layer leaves column j as it is, none of it
+ * where the read was refused); number 1, the front of out. value: the length of that part. */
+struct kw_answer kw_view(size_t c, size_t m, const uint64_t *layer, size_t layer_len, const uint64_t *base, size_t n,
+                         size_t j, const uint64_t *out, size_t out_len);
+
+/* The shift at base position s, 0 to n: adds at positions up to s, less strikes before s. Refusals 1 2. */
+struct kw_shift kw_shift_at(size_t c, size_t n, size_t m, const uint64_t *layer, size_t layer_len, size_t s);
+
+/* The row number of base position s; of a struck row, that of the next shown row. Refusals 1 2. */
+struct kw_answer kw_row(size_t c, size_t n, size_t m, const uint64_t *layer, size_t layer_len, size_t s);
+
+/* What row number r is: base row s, or KW_ADDED + i for the added entry number i. Refusals 1 2 5. */
+struct kw_answer kw_back(size_t c, size_t n, size_t m, const uint64_t *layer, size_t layer_len, size_t r);
+
+/* Adds a row of c numbers. Refusals 1 2 3 4 7 9 10. value: the new m. */
+struct kw_answer kw_add(size_t c, size_t m, uint64_t *layer, size_t layer_len, const uint64_t *keys, size_t n,
+                        const uint64_t *row, size_t row_len);
+
+/* Strikes row number r. Entries that this frees become zero. Refusals 1 2 3 4 5 9. value: the new m. */
+struct kw_answer kw_strike(size_t c, size_t m, uint64_t *layer, size_t layer_len, const uint64_t *keys, size_t n, size_t r);
+
+/* Changes column j of row number r to v. Refusals 1 2 3 4 5 6 9. value: the new m. */
+struct kw_answer kw_change(size_t c, size_t m, uint64_t *layer, size_t layer_len, const uint64_t *keys, size_t n, size_t r,
+                           size_t j, uint64_t v);
+
+/* One layer into out that reads as r and then w, where w stands over r's result. Refusals 1 2 3 4 9 (and 10, which no input
+ * reaches). value: its m; the rest of out stays. */
+struct kw_answer kw_combine(size_t c, const uint64_t *keys, size_t n, size_t mr, const uint64_t *r, size_t r_len, size_t mw,
+                            const uint64_t *w, size_t w_len, uint64_t *out, size_t out_len);
+
+/* Moves x past y, both over the same rows: x then stands over y's result. Only x's positions change. Refusals 1 2 3 4 8 10.
+ * value: m of x. */
+struct kw_answer kw_move(size_t c, const uint64_t *keys, size_t n, size_t mx, uint64_t *x, size_t x_len, size_t my,
+                         const uint64_t *y, size_t y_len);
+
+#ifdef __cplusplus
+}
+#endif
+
+#endif
