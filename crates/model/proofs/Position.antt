@@ -24,7 +24,7 @@ use lib.ListN.{length, getD, take, drop, replicate, length-append, List·getD-eq
 use lib.Seq.{append-snoc, getD-append-seam, take-append-seam, split-at, length-take-le}
 use lib.IntN.{ℤ, pos, negsuc, natAbs, subℕ, _+ℤ_}
 use lib.Dec.{leb, ltb, eqb, leb·suc-suc}
-use borrow.Author.Tests.{ltb-true, ltb-false, leb-true, leb-false, eqb-true, eqb-false, lt-ltb, le-ltb, le-leb, lt-leb, eq-eqb, ne-eqb, not-true}
+use borrow.Author.Tests.{ltb-true, ltb-false, leb-true, leb-false, eqb-true, lt-ltb, le-ltb, le-leb, lt-leb, eq-eqb, ne-eqb, not-true}
 use Rattle.order.specs.Lists.{one, count, leastBroken}
 use Rattle.order.proofs.Tests.{tests, and-l, and-r, and-of, one-le}
 use Rattle.order.proofs.Counts.{count-append, count-sum, count-same, count-zero, count-le}

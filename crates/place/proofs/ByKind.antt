@@ -12,7 +12,7 @@ use Rattle.model.specs.declared.Entry.{Entry}
 use Rattle.model.specs.Cell.{to}
 use Rattle.model.specs.Layer.{at, add, strike, change, Layer}
 use Rattle.model.specs.Raw.{ADD, STRIKE, editOf}
-use Rattle.model.specs.Position.{addUpTo, strikeBefore, base, added, Origin}
+use Rattle.model.specs.Position.{addUpTo, strikeBefore, base, added}
 use Rattle.place.specs.Walk.{originFrom}
 
 pub add-upto : (s : ℕ) (e : Entry) → addUpTo s (editOf e) ≡ (eqb (e .kind) ADD && leb (e .pos) s)

@@ -1,16 +1,16 @@
 -- What holds at the head of the pass that counts the adds up to s and the strikes before s, and the ways on from there.
 -- Assumes nothing.
-use Prim.Native.Nat.{ℕ, suc, _+_, _*_, _-_, _≤_, _<_}
+use Prim.Native.Nat.{ℕ, _+_, _*_, _-_, _≤_, _<_}
 use native.Mathlib.Nat.{zero-add, sub-zero}
 use native.Mathlib.Omega.{arith}
-use mathlib.Core.Path.{_≡_, refl, sym, ap, _∙_}
-use mathlib.Core.Bool.{Bool, _&&_}
-use mathlib.Core.List.{List, [], _∷_, map}
+use mathlib.Core.Path.{_≡_, _∙_}
+use mathlib.Core.Bool.{_&&_}
+use mathlib.Core.List.{List, map}
 use lib.ListN.{length}
 use lib.Dec.{leb, ltb, eqb}
 use Rattle.order.specs.Lists.{one, count}
 use Rattle.order.proofs.Tests.{one-le}
-use Rattle.model.specs.Layer.{Edit, Layer}
+use Rattle.model.specs.Layer.{Layer}
 use Rattle.model.specs.Raw.{ADD, STRIKE, Held, entryAt, entriesAt, editOf, layerOf}
 use Rattle.model.specs.Position.{addUpTo, strikeBefore}
 use Rattle.model.proofs.Raw.{start, next, edits-step, edits-end}

@@ -1,7 +1,6 @@
 -- The one pass over the entries finds what stands at a row: what is passed lies before it, what is left lies after it.
 -- Assumes nothing.
-use Prim.Native.Nat.{ℕ, zero, suc, _+_, _-_, _≤_, _<_}
-use native.Mathlib.Nat.{add-zero, zero-add}
+use Prim.Native.Nat.{ℕ, suc, _+_, _-_, _≤_, _<_}
 use native.Mathlib.Omega.{arith}
 use mathlib.Core.Path.{_≡_, refl, sym, ap, subst, _∙_}
 use mathlib.Core.Logic.{⊎-elim}
@@ -23,14 +22,14 @@ use mathlib.Core.List.{
 use lib.ListN.{length, length-append}
 use lib.Seq.{append-snoc, getD-append-seam, take-append-seam}
 use lib.Dec.{leb, ltb, eqb}
-use borrow.Author.Tests.{ltb-true, ltb-false, leb-true, eqb-true, eqb-false, lt-ltb, le-ltb, le-leb, lt-leb, eq-eqb, ne-eqb}
+use borrow.Author.Tests.{ltb-true, leb-true, eqb-true, lt-ltb, le-ltb, le-leb, lt-leb}
 use Rattle.order.specs.Lists.{one, any, count}
 use Rattle.order.proofs.Tests.{tests, and-l}
 use Rattle.order.proofs.Counts.{count-append, count-same, count-zero}
-use Rattle.order.proofs.Pairs.{AllPairs, Unbroken}
-use Rattle.model.specs.Layer.{Deed, Edit, at, add, strike, change, Layer, position, isAdd, isStrike, rowsAfter, strikesRow, struck}
+use Rattle.order.proofs.Pairs.{AllPairs}
+use Rattle.model.specs.Layer.{Deed, Edit, at, add, strike, change, Layer, position, isAdd, isStrike, rowsAfter, struck}
 use Rattle.model.specs.Form.{sound, follows, inOrder}
-use Rattle.model.specs.Position.{addUpTo, strikeBefore, rowOf, Origin, base, added, back}
+use Rattle.model.specs.Position.{addUpTo, strikeBefore, rowOf, base, added, back}
 use Rattle.model.proofs.Layer.{struck-none}
 use Rattle.model.proofs.Position.{formed, pairs-at, follows-pos, follows-strike, entryNo, rowOfEntry, base-row-back, added-back}
 use Rattle.place.specs.Walk.{originFrom}

@@ -1,20 +1,19 @@
 -- What holds at the head of the pass back from a row number, and the ways on from there.
 -- Assumes nothing.
 use Prim.Native.Nat.{ℕ, suc, _+_, _*_, _-_, _≤_, _<_}
-use native.Mathlib.Nat.{zero-add, sub-zero}
+use native.Mathlib.Nat.{sub-zero}
 use native.Mathlib.Numerals.{add-one}
 use native.Mathlib.Omega.{arith}
-use mathlib.Core.Path.{_≡_, refl, sym, ap, _∙_}
-use mathlib.Core.Bool.{Bool, true, false, cond}
-use mathlib.Core.List.{List, [], _∷_, map}
+use mathlib.Core.Path.{_≡_, sym, ap, _∙_}
+use mathlib.Core.Bool.{true, cond}
+use mathlib.Core.List.{List}
 use lib.ListN.{length}
-use lib.Dec.{leb, ltb, eqb}
+use lib.Dec.{ltb, eqb}
 use borrow.Author.Tests.{lt-ltb, le-ltb, eq-eqb, ne-eqb}
-use Rattle.order.specs.Lists.{count}
 use Rattle.order.proofs.Counts.{count-le}
 use Rattle.model.specs.declared.Entry.{Entry}
-use Rattle.model.specs.Layer.{Edit, Layer, isAdd, rowsAfter}
-use Rattle.model.specs.Raw.{ADD, STRIKE, Held, entryAt, entriesAt, editOf, layerOf}
+use Rattle.model.specs.Layer.{Layer, isAdd, rowsAfter}
+use Rattle.model.specs.Raw.{ADD, STRIKE, Held, entryAt, layerOf}
 use Rattle.model.specs.Form.{inOrder}
 use Rattle.model.specs.Position.{base, added, back}
 use Rattle.model.proofs.Raw.{start, next, edits-step, edits-end, layer-length}

@@ -3,10 +3,9 @@
 use borrow.Author.Needs.{needs}
 use native.Mathlib.Omega.{arith}
 use mathlib.Core.Path.{_≡_, sym, ap, _∙_}
-use Prim.Native.Nat.{ℕ, _+_, _-_, _≤_, _<_}
+use Prim.Native.Nat.{_+_, _-_, _≤_}
 use lib.ListN.{length}
-use Rattle.model.specs.Raw.{ADD, STRIKE, entryAt}
-use Rattle.model.specs.Position.{added}
+use Rattle.model.specs.Raw.{entryAt}
 use Rattle.model.specs.Calls.{originAnswer}
 use Rattle.model.proofs.Raw.{here}
 use Rattle.place.proofs.Walking.{Walking, begin, end, before, here-added, past-add, past-strike, past-change}

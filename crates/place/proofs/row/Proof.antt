@@ -1,9 +1,9 @@
 -- `place::row` meets its contract: past n it is refused, else as the form check refuses, else the row is `row_at`'s.
 -- Assumes nothing.
 use borrow.Author.Needs.{needs}
-use mathlib.Core.Path.{_≡_, sym, ap, _∙_}
+use mathlib.Core.Path.{sym, _∙_}
 use native.Mathlib.Omega.{arith}
-use Rattle.form.proofs.Accepted.{Accepted, accepted}
+use Rattle.form.proofs.Accepted.{accepted}
 use Rattle.place.proofs.Answers.{row-past, row-checked}
 use Rattle.place.proofs.row.Statement.{statement}
 use Rattle.place.proofs.row.Tie as tie

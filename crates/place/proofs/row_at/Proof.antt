@@ -1,8 +1,7 @@
 -- `place::row_at` meets its contract: the shift is small, and takes s to a row that is not negative.
 -- Assumes nothing.
 use borrow.Author.Needs.{needs}
-use mathlib.Core.Path.{_≡_, sym, ap, _∙_}
-use native.Mathlib.Omega.{arith}
+use mathlib.Core.Path.{_≡_}
 use Rattle.model.specs.Raw.{layerOf}
 use Rattle.model.specs.Position.{shift}
 use Rattle.model.proofs.Position.{row-never-negative}

@@ -1,8 +1,7 @@
 -- `place::shift` meets its contract: past n it is refused, else as the form check refuses, else the shift is `shift_at`'s.
 -- Assumes nothing.
 use borrow.Author.Needs.{needs}
-use mathlib.Core.Path.{_≡_, sym, ap, _∙_}
-use native.Mathlib.Omega.{arith}
+use mathlib.Core.Path.{sym, ap, _∙_}
 use Rattle.form.proofs.Accepted.{Accepted, accepted}
 use Rattle.model.specs.declared.Shifted.the-variants.{By}
 use Rattle.place.proofs.Signed.{read-back}

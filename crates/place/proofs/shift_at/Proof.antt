@@ -1,7 +1,7 @@
 -- `place::shift_at` meets its contract: the shift is the adds up to s less the strikes before s, and both are few.
 -- Assumes nothing.
 use borrow.Author.Needs.{needs}
-use mathlib.Core.Path.{_≡_, sym, ap, _∙_}
+use mathlib.Core.Path.{_≡_}
 use native.Mathlib.Omega.{arith}
 use Rattle.order.proofs.Counts.{count-le}
 use Rattle.model.specs.Raw.{layerOf}
