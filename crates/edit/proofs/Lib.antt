@@ -1,0 +1,7 @@
+pub mod Splice
+pub mod Landed
+pub mod Known
+pub mod Entering
+pub mod Struck
+pub mod Changed
+pub mod Cores

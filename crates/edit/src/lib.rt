@@ -1,0 +1,3 @@
+// The three edits of a layer: add a row, strike a row, change a column of a row.
+mod landing;
+mod base;
