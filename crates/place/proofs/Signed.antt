@@ -73,5 +73,6 @@ module _ (s : ℕ) (d : ℤ) (hs : s ≤ 4096) (hd : natAbs d ≤ 512) where
       × Fits w64 (natAbs (toZ w64 (ofZ w64 (toZ w64 s +ℤ toZ w64 (ofZ w64 d)))))
   sum-row h = rw sum-read (rw h tt, record { fits = omega (arith, sum-small) })
 
-  pub row-read : nonNeg (pos s +ℤ d) ≡ true → pos (natAbs (toZ w64 (ofZ w64 (toZ w64 s +ℤ toZ w64 (ofZ w64 d))))) ≡ pos s +ℤ d
+  pub row-read : nonNeg (pos s +ℤ d) ≡ true → pos (natAbs (toZ w64 (ofZ w64 (toZ w64 s +ℤ toZ w64 (ofZ w64 d)))))
+      ≡ pos s +ℤ d
   row-read h = rw sum-read (pos-natAbs (pos s +ℤ d) (rw h tt))

@@ -54,7 +54,8 @@ module _ {c n m : ℕ} {xs : List ℕ} {r i from t : ℕ} (g : Walking c n m xs 
     abbrev L : Layer
     L = editsLeft c m xs (i + 1) (from + (c + 2))
 
-    step : cond (ltb t (e .pos)) (base t) (cond (eqb (e .kind) ADD) (cond (eqb t (e .pos)) (added i) (originFrom (suc i) (t - 1) L))
+    step : cond (ltb t (e .pos)) (base t) (cond (eqb (e .kind) ADD)
+        (cond (eqb t (e .pos)) (added i) (originFrom (suc i) (t - 1) L))
         (cond (eqb (e .kind) STRIKE) (originFrom (suc i) (suc t) L) (originFrom (suc i) t L)))
         ≡ back n (layerOf c m xs) r
     step = sym (rw (edits-step c m i from xs h) (origin-step i t e L)) ∙ g .goes
@@ -68,7 +69,8 @@ module _ {c n m : ℕ} {xs : List ℕ} {r i from t : ℕ} (g : Walking c n m xs 
     here-added l k q = rw (le-ltb t (e .pos) l, eq-eqb (e .kind) ADD k, eq-eqb t (e .pos) q) at step
 
     -- the entry is passed, and leaves base row t′
-    past : (t′ : ℕ) → t′ ≤ suc t → originFrom (suc i) t′ L ≡ back n (layerOf c m xs) r → Walking c n m xs r (i + 1) (from + (c + 2)) t′
+    past : (t′ : ℕ) → t′ ≤ suc t → originFrom (suc i) t′ L ≡ back n (layerOf c m xs) r
+        → Walking c n m xs r (i + 1) (from + (c + 2)) t′
     past t′ b w = record {
       room = next c m i from (length xs) h (g .room);
       within = omega arith;
@@ -78,12 +80,17 @@ module _ {c n m : ℕ} {xs : List ℕ} {r i from t : ℕ} (g : Walking c n m xs 
     }
 
     pub past-add : e .pos ≤ t → e .kind ≡ ADD → (t ≡ e .pos → ⊥) → Walking c n m xs r (i + 1) (from + (c + 2)) (t - 1)
-    past-add l k q = past (t - 1) (omega arith) (rw (le-ltb t (e .pos) l, eq-eqb (e .kind) ADD k, ne-eqb t (e .pos) q) at step)
+    past-add l k q = past (t - 1) (omega arith)
+        (rw (le-ltb t (e .pos) l, eq-eqb (e .kind) ADD k, ne-eqb t (e .pos) q) at step)
 
-    pub past-strike : e .pos ≤ t → (e .kind ≡ ADD → ⊥) → e .kind ≡ STRIKE → Walking c n m xs r (i + 1) (from + (c + 2)) (t + 1)
+    pub past-strike : e .pos ≤ t → (e .kind ≡ ADD → ⊥) → e .kind ≡ STRIKE
+        → Walking c n m xs r (i + 1) (from + (c + 2)) (t + 1)
     past-strike l k q =
         past (t + 1) (omega arith)
-        (ap (λ (k : ℕ). originFrom (suc i) k L) (add-one t) ∙ rw (le-ltb t (e .pos) l, ne-eqb (e .kind) ADD k, eq-eqb (e .kind) STRIKE q) at step)
+        (ap (λ (k : ℕ). originFrom (suc i) k L) (add-one t)
+        ∙ rw (le-ltb t (e .pos) l, ne-eqb (e .kind) ADD k, eq-eqb (e .kind) STRIKE q) at step)
 
-    pub past-change : e .pos ≤ t → (e .kind ≡ ADD → ⊥) → (e .kind ≡ STRIKE → ⊥) → Walking c n m xs r (i + 1) (from + (c + 2)) t
-    past-change l k q = past t (omega arith) (rw (le-ltb t (e .pos) l, ne-eqb (e .kind) ADD k, ne-eqb (e .kind) STRIKE q) at step)
+    pub past-change : e .pos ≤ t → (e .kind ≡ ADD → ⊥) → (e .kind ≡ STRIKE → ⊥)
+        → Walking c n m xs r (i + 1) (from + (c + 2)) t
+    past-change l k q = past t (omega arith) (rw
+        (le-ltb t (e .pos) l, ne-eqb (e .kind) ADD k, ne-eqb (e .kind) STRIKE q) at step)

@@ -30,7 +30,8 @@ returns : tie.Need-returns
 returns c =
     let a = c .before .before .before .args in
     let e = rw (read (c .before)) at (c .shifted .ensures) in
-    let f = row-never-negative (a .c) (a .n) (layerOf (a .c) (a .m) (a .layer .now)) (c .before .before .before .pre .2) (a .s) in
+    let f = row-never-negative (a .c) (a .n) (layerOf (a .c) (a .m) (a .layer .now))
+    (c .before .before .before .pre .2) (a .s) in
     cc
 
 pub row-at-spec : {M : Type 1} → statement M
