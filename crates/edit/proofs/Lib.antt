@@ -5,3 +5,5 @@ pub mod Entering
 pub mod Struck
 pub mod Changed
 pub mod Cores
+pub mod Answered
+pub mod Rows
