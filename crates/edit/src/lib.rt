@@ -1,6 +1,7 @@
 // The three edits of a layer: add a row, strike a row, change a column of a row.
-mod landing;
+mod adding;
 mod base;
+mod landing;
 
 use model::Answer;
 use model::Back;
@@ -12,7 +13,7 @@ ghost use Rattle.model.specs.Cell.{to};
 ghost use Rattle.model.specs.Layer.{rowsAfter};
 ghost use Rattle.model.specs.Raw.{layerOf};
 ghost use Rattle.model.specs.Edits.{strikeRow, changeRowNo};
-ghost use Rattle.model.specs.Calls.{edited, strikeAnswer, struckLayer, changeAnswer, changedLayer};
+ghost use Rattle.model.specs.Calls.{edited, addAnswer, addedLayer, strikeAnswer, struckLayer, changeAnswer, changedLayer};
 ghost use Rattle.edit.specs.Ready.{Ready, readyAnswer};
 ghost use Rattle.edit.specs.Outcome.{Entered};
 
@@ -35,6 +36,23 @@ fn ready(c: usize, m: usize, layer: &[u64], keys: &[u64]) -> Answer
             }
             Answer::Done(rows)
         }
+    }
+}
+
+// Add a row: an add entry at its position, in key order among the adds there.
+pub fn add(c: usize, m: usize, layer: &mut [u64], keys: &[u64], row: &[u64]) -> Answer
+    ensures { λ x. ⌜ (x ≡ addAnswer c m (now (layer .entry)) (now (keys .entry)) (now (row .entry)))
+        × (now (layer .exit) ≡ edited c m x (addedLayer c m (now (layer .entry)) (now (keys .entry)) (now (row .entry))) (now (layer .entry))) ⌝ }
+{
+    if row.len() != c {
+        return Answer::Refused(Refusal {
+            number: 1,
+            place: 0,
+        });
+    }
+    match ready(c, m, layer, keys) {
+        Answer::Refused(x) => Answer::Refused(x),
+        Answer::Done(rows) => adding::add_row(c, m, layer, keys, row, rows),
     }
 }
 
@@ -73,7 +91,15 @@ pub fn strike(c: usize, m: usize, layer: &mut [u64], keys: &[u64], r: usize) -> 
 }
 
 // Changes column j, which is not the key, of row number r, which is shown, to v.
-fn change_row(c: usize, m: usize, layer: &mut [u64], keys: &[u64], r: usize, j: usize, v: u64) -> Answer
+fn change_row(
+    c: usize,
+    m: usize,
+    layer: &mut [u64],
+    keys: &[u64],
+    r: usize,
+    j: usize,
+    v: u64,
+) -> Answer
     requires { ⌜ Ready c m (now layer) (now keys) × (r < rowsAfter (length (now keys)) (layerOf c m (now layer))) × (1 ≤ j) × (j < c) ⌝ }
     ensures { λ x. ⌜ Entered c m (changeRowNo (now (keys .entry)) r j (to v) (layerOf c m (now (layer .entry)))) (now (layer .entry)) x (now (layer .exit)) ⌝ }
 {
@@ -88,7 +114,15 @@ fn change_row(c: usize, m: usize, layer: &mut [u64], keys: &[u64], r: usize, j: 
 }
 
 // Change column j of row number r to v: an added row's value is replaced; a base row's change of j is replaced or entered in column order.
-pub fn change(c: usize, m: usize, layer: &mut [u64], keys: &[u64], r: usize, j: usize, v: u64) -> Answer
+pub fn change(
+    c: usize,
+    m: usize,
+    layer: &mut [u64],
+    keys: &[u64],
+    r: usize,
+    j: usize,
+    v: u64,
+) -> Answer
     ensures { λ x. ⌜ (x ≡ changeAnswer c m (now (layer .entry)) (now (keys .entry)) r j v)
         × (now (layer .exit) ≡ edited c m x (changedLayer c m (now (layer .entry)) (now (keys .entry)) r j v) (now (layer .entry))) ⌝ }
 {
