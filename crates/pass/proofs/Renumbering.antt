@@ -5,14 +5,22 @@ use native.Mathlib.Nat.{sub-zero, zero-mul, suc-mul}
 use native.Mathlib.Numerals.{add-one}
 use native.Mathlib.Omega.{arith}
 use mathlib.Core.Path.{_≡_, refl, sym, ap, _∙_}
-use mathlib.Core.Bool.{Bool, true, false}
-use mathlib.Core.List.{List, [], _∷_, _++_, append-assoc, map, List·Memᴰ as Mem, List·Memᴰ·head as here, List·Memᴰ·tail as next}
+use mathlib.Core.Bool.{true}
+use mathlib.Core.List.{
+  List,
+  _∷_,
+  _++_,
+  append-assoc,
+  map,
+  List·Memᴰ as Mem,
+  List·Memᴰ·head as here,
+  List·Memᴰ·tail as next,
+}
 use lib.ListN.{length, getD, take, drop, set, length-set, take-append-drop}
 use lib.Seq.{take-add, drop-drop, drop-cons, take-set-le, drop-set-lt, getD-set-same, getD-drop}
 use Rattle.order.specs.Lists.{gather}
-use Rattle.order.proofs.Pairs.{AllPairs}
 use Rattle.model.specs.declared.Entry.{Entry}
-use Rattle.model.specs.Layer.{Edit, at, Layer, position}
+use Rattle.model.specs.Layer.{at, position}
 use Rattle.model.specs.Raw.{entryAt, entriesAt, deedOf, editOf, numbersOf, layerOf, flat}
 use Rattle.model.specs.Form.{zeros}
 use Rattle.model.specs.Edits.{before}
@@ -46,8 +54,18 @@ entry-set c from p zs xs r l e =
     let two : from + 2 ≡ suc (suc from) = omega arith in
     let d : drop (suc from) zs ≡ drop (suc from) xs =
     ap (λ (n : ℕ). drop n zs) (sym one) ∙ (sym (drop-drop 1 from zs) ∙ (ap (drop 1) e ∙ (drop-drop 1 from xs ∙ ap (λ (n : ℕ). drop n xs) one))) in
-    rw (a, take-add from (suc (suc c)) (set zs from p), take-set-le from zs from p (omega arith), drop-cons (set zs from p) from 0 (omega (arith, length-set zs from p)),
-    getD-set-same zs from p 0 (omega arith), drop-set-lt (suc from) zs from p (omega arith), d, drop-cons xs (suc from) 0 (omega arith), one, two)
+    rw (
+      a,
+      take-add from (suc (suc c)) (set zs from p),
+      take-set-le from zs from p (omega arith),
+      drop-cons (set zs from p) from 0 (omega (arith, length-set zs from p)),
+      getD-set-same zs from p 0 (omega arith),
+      drop-set-lt (suc from) zs from p (omega arith),
+      d,
+      drop-cons xs (suc from) 0 (omega arith),
+      one,
+      two,
+    )
 
 module _ (c mx : ℕ) (xs : List ℕ) (my : ℕ) (ys : List ℕ) where
   -- the numbers of the moved edits from number i on, and what stands past X

@@ -3,8 +3,8 @@
 use borrow.Author.Needs.{needs}
 use mathlib.Core.Path.{_≡_, refl, sym, ap, _∙_}
 use Prim.Native.Nat.{ℕ}
-use mathlib.Core.List.{List, _++_}
-use lib.ListN.{length, drop}
+use mathlib.Core.List.{_++_}
+use lib.ListN.{drop}
 use Rattle.model.specs.declared.Answer.the-variants.{Done}
 use Rattle.model.specs.Raw.{flat}
 use Rattle.model.specs.Calls.{movedLayer, moveAnswer}
@@ -54,8 +54,8 @@ returns-2 c =
     let a = t .before .before .before .before .before .before .before .before .args in (
       sym (answered t),
       c .before .before .renumber .ensures
-      ∙ ap (λ (n : ℕ). flat (a .c) (movedLayer (a .c) (a .mx) (a .x .now) (a .my) (a .y .now)) ++ drop n (a .x .now))
-      (sym (move-length (a .c) (a .keys .now) (a .mx) (a .x .now) (a .my) (a .y .now) (accepted t .sides))),
+          ∙ ap (λ (n : ℕ). flat (a .c) (movedLayer (a .c) (a .mx) (a .x .now) (a .my) (a .y .now)) ++ drop n (a .x .now))
+          (sym (move-length (a .c) (a .keys .now) (a .mx) (a .x .now) (a .my) (a .y .now) (accepted t .sides))),
     )
 
 pub move-past-spec : {M : Type 1} → statement M
