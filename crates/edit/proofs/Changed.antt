@@ -1,34 +1,22 @@
 -- Changing a cell of a base row: its old change, if there is one, stands right where the new one lands.
 -- Assumes nothing.
-use Prim.Native.Nat.{ℕ, zero, suc, _+_, _-_, _≤_, _<_}
+use Prim.Native.Nat.{ℕ, _+_, _-_, _≤_, _<_}
 use native.Mathlib.Nat.{add-zero}
 use native.Mathlib.Omega.{arith}
 use mathlib.Core.Path.{_≡_, refl, sym, ap, _∙_}
-use mathlib.Core.Logic.{_⊎_, inl, inr, ⊎-elim}
-use mathlib.Core.Bool.{Bool, true, false, not, cond, _&&_, _||_, true≢false, and-false}
-use mathlib.Core.List.{
-  List,
-  [],
-  _∷_,
-  _++_,
-  List·Memᴰ as Mem,
-  List·Memᴰ·head as here,
-  List·Memᴰ·tail as next,
-  List·Memᴰ·not-nil as not-nil,
-  List·Memᴰ·cases-cons as cases-cons,
-  List·Memᴰ·eq-of-singleton as eq-of-singleton,
-}
-use lib.ListN.{length, getD, take, drop}
-use lib.Dec.{ltb, eqb}
+use mathlib.Core.Logic.{_⊎_, ⊎-elim}
+use mathlib.Core.Bool.{Bool, true, false, cond, _&&_, true≢false, and-false}
+use mathlib.Core.List.{[], _∷_, _++_, List·Memᴰ as Mem, List·Memᴰ·head as here, List·Memᴰ·tail as next, List·Memᴰ·not-nil as not-nil, List·Memᴰ·cases-cons as cases-cons, List·Memᴰ·eq-of-singleton as eq-of-singleton}
+use lib.ListN.{getD, take, drop}
+use lib.Dec.{eqb}
 use borrow.Author.Tests.{eqb-true, ne-eqb, ltb-true}
-use Rattle.order.specs.Lists.{insert, filter, firstAt}
 use Rattle.order.proofs.Tests.{and-l, and-r, not-passed, eqb-sym}
 use Rattle.order.proofs.Pairs.{AllPairs}
 use Rattle.model.specs.declared.Entry.{Entry}
 use Rattle.model.specs.Cell.{CellEdit, to}
-use Rattle.model.specs.Layer.{Deed, add, strike, change, Edit, at, Layer, changesCell}
+use Rattle.model.specs.Layer.{add, strike, change, Edit, at, Layer, changesCell}
 use Rattle.model.specs.Raw.{ADD, STRIKE, editOf}
-use Rattle.model.specs.Edits.{deedBefore, before, changeBase}
+use Rattle.model.specs.Edits.{before, changeBase}
 use Rattle.model.proofs.Edits.{before-cases, before-trans}
 use Rattle.edit.specs.Landing.{aim, landing}
 use Rattle.edit.specs.Ready.{entryIs}

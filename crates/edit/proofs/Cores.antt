@@ -3,8 +3,8 @@
 use Prim.Native.Nat.{ℕ, suc, _+_, _-_, _*_, _≤_, _<_}
 use native.Mathlib.Omega.{arith}
 use mathlib.Core.Path.{_≡_, refl, sym, ap, _∙_}
-use mathlib.Core.Bool.{Bool, true, false, _&&_}
-use mathlib.Core.List.{List, [], _∷_, _++_}
+use mathlib.Core.Bool.{true, false, _&&_}
+use mathlib.Core.List.{List, _∷_, _++_}
 use lib.ListN.{length, getD, take, drop}
 use lib.Dec.{ltb, leb}
 use borrow.Author.Tests.{lt-ltb, le-leb}
@@ -12,8 +12,8 @@ use Rattle.order.proofs.Tests.{and-of}
 use Rattle.model.specs.declared.Entry.{Entry}
 use Rattle.model.specs.declared.Answer.{Answer}
 use Rattle.model.specs.Cell.{to}
-use Rattle.model.specs.Layer.{add, strike, change, Edit, at, Layer, struck, changesCell}
-use Rattle.model.specs.Raw.{ADD, STRIKE, strikeEntry, changeEntry, entryAt, editOf, layerOf, numbersOf}
+use Rattle.model.specs.Layer.{strike, change, Edit, at, Layer, struck, changesCell}
+use Rattle.model.specs.Raw.{ADD, STRIKE, strikeEntry, changeEntry, entryAt, editOf, layerOf}
 use Rattle.model.specs.Edits.{strikeBase, changeBase}
 use Rattle.write.specs.Replaced.{entryNumbers, replaced}
 use Rattle.write.proofs.Layers.{sound-wide, strike-numbers, change-numbers}

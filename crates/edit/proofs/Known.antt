@@ -1,28 +1,26 @@
 -- What is known of a layer once an edit has passed its first four refusals.
 -- Assumes nothing.
-use Prim.Native.Nat.{ℕ, zero, suc, _+_, _-_, _*_, _≤_, _<_}
+use Prim.Native.Nat.{ℕ, _+_, _-_, _*_, _<_}
 use native.Mathlib.Nat.{zero-add}
 use native.Mathlib.Numerals.{add-one}
 use native.Mathlib.Omega.{arith}
-use mathlib.Core.Path.{_≡_, refl, sym, ap, _∙_, subst}
-use mathlib.Core.Bool.{Bool, true, false, _&&_}
-use mathlib.Core.List.{List, [], _∷_, map, List·Memᴰ as Mem}
+use mathlib.Core.Path.{_≡_, refl, sym, ap, _∙_}
+use mathlib.Core.Bool.{Bool, true, false}
+use mathlib.Core.List.{List, [], _∷_, map}
 use lib.ListN.{length, getD, drop, length-drop, length-map, List·getD-map}
 use lib.Dec.{ltb}
 use borrow.Author.Tests.{ltb-true, ltb-false}
 use lib.Seq.{drop-cons}
 use Rattle.order.specs.Lists.{ascending}
 use Rattle.order.proofs.Tests.{and-l, and-r}
-use Rattle.order.proofs.Ascending.{AscFrom, asc-of, At, getD-at}
+use Rattle.order.proofs.Ascending.{AscFrom, asc-of, getD-at}
 use Rattle.model.specs.declared.Entry.{Entry}
 use Rattle.model.specs.Row.{Row, Table, key, keys}
 use Rattle.model.specs.Layer.{Edit, Layer, rowsAfter}
-use Rattle.model.specs.Raw.{Held, none, entryAt, entriesOf, editOf, layerOf}
-use Rattle.model.specs.Form.{inOrder}
-use Rattle.model.specs.Fit.{fits}
+use Rattle.model.specs.Raw.{none, entryAt, entriesOf, editOf, layerOf}
 use Rattle.model.specs.Read.{read}
 use Rattle.model.specs.Position.{back}
-use Rattle.model.proofs.Raw.{entry-at, entries-length, layer-length}
+use Rattle.model.proofs.Raw.{entry-at, layer-length}
 use Rattle.model.proofs.Fit.{Good, good-of}
 use Rattle.model.proofs.Count.{read-length}
 use Rattle.model.proofs.Origin.{Stands, back-row}

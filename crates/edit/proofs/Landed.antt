@@ -1,17 +1,16 @@
 -- The landing search, one step and the end; and what stands on either side of where an edit lands.
 -- Assumes nothing.
-use Prim.Native.Nat.{ℕ, zero, suc, _+_, _-_, _*_, _≤_, _<_}
+use Prim.Native.Nat.{ℕ, _+_, _-_, _≤_, _<_}
 use native.Mathlib.Nat.{zero-add, sub-zero}
 use native.Mathlib.Numerals.{add-one}
 use native.Mathlib.Omega.{arith}
-use mathlib.Core.Path.{_≡_, refl, sym, ap, _∙_}
+use mathlib.Core.Path.{_≡_, refl, ap}
 use mathlib.Core.Bool.{Bool, true, false, not, cond, _&&_, _||_}
-use mathlib.Core.List.{List, [], _∷_, map, List·Memᴰ as Mem}
-use lib.ListN.{length, getD, take, drop, drop-of-length-le}
+use mathlib.Core.List.{List, [], _∷_, map}
+use lib.ListN.{length, getD, drop, drop-of-length-le}
 use lib.Seq.{drop-cons}
 use lib.Dec.{ltb, eqb}
-use Rattle.order.specs.Lists.{one, count, firstAt}
-use Rattle.order.proofs.Pairs.{AllPairs}
+use Rattle.order.specs.Lists.{one}
 use Rattle.model.specs.declared.Entry.{Entry}
 use Rattle.model.specs.Row.{key}
 use Rattle.model.specs.Cell.{to}
@@ -20,8 +19,7 @@ use Rattle.model.specs.Raw.{ADD, STRIKE, entryAt, entriesAt, editOf, layerOf}
 use Rattle.model.specs.Fit.{keysBelow}
 use Rattle.model.specs.Edits.{deedBefore, before}
 use Rattle.model.proofs.Raw.{edits-step, edits-end}
-use Rattle.model.proofs.Edits.{before-trans}
-use Rattle.edit.specs.Landing.{aim, beforeKind, standsBefore, landing}
+use Rattle.edit.specs.Landing.{aim, standsBefore, landing}
 use Rattle.edit.proofs.Splice.{first-le}
 
 -- the test by numbers is the order of the edits

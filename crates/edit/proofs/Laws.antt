@@ -1,23 +1,23 @@
 -- The promises of the edits: an accepted call leaves a layer that keeps form and fits, so that the next call meets no refusal 2 or 4;
 -- reading every column through it is the edited table; a run of calls from an empty layer is those edits done one after the other by key.
 -- Assumes nothing.
-use Prim.Native.Nat.{ℕ, suc, _+_, _-_, _*_, _≤_, _<_, max}
+use Prim.Native.Nat.{ℕ, _+_, _-_, _*_, _≤_, _<_, max}
 use native.Mathlib.Omega.{arith}
 use mathlib.Core.Path.{_≡_, refl, sym, ap, _∙_}
-use mathlib.Core.Bool.{Bool, true, false, _&&_, _||_}
-use mathlib.Core.List.{List, [], _∷_, _++_, map, List·Memᴰ as Mem, List·Memᴰ·not-nil as not-nil}
+use mathlib.Core.Bool.{true, _&&_}
+use mathlib.Core.List.{List, [], _∷_, _++_, map, List·Memᴰ·not-nil as not-nil}
 use lib.ListN.{length, drop, replicate, length-append}
-use lib.Dec.{leb, ltb, eqb}
+use lib.Dec.{leb}
 use borrow.Author.Tests.{le-leb, le-ltb, eqb-true}
-use Rattle.order.specs.Lists.{inTurn, ascending, leastBroken}
+use Rattle.order.specs.Lists.{inTurn}
 use Rattle.order.proofs.Tests.{and-of}
 use Rattle.order.proofs.Members.{mem-map}
 use Rattle.order.proofs.Pairs.{AllPairs, pairs-weaker, of-unbroken}
-use Rattle.order.proofs.Ascending.{AscFrom, of-asc}
+use Rattle.order.proofs.Ascending.{of-asc}
 use Rattle.model.specs.declared.Entry.{Entry}
 use Rattle.model.specs.declared.Answer.the-variants.{Done}
 use Rattle.model.specs.Row.{Table, key, keys, column}
-use Rattle.model.specs.Layer.{Edit, Layer, rowsAfter}
+use Rattle.model.specs.Layer.{Layer, rowsAfter}
 use Rattle.model.specs.Raw.{editOf, entriesAt, entriesOf, layerOf, flat}
 use Rattle.model.specs.Form.{zeros, sound, follows, formPlace, keepsForm, inOrder, argsOk}
 use Rattle.model.specs.Fit.{fits, fitPlace}
@@ -28,7 +28,7 @@ use Rattle.model.specs.Steps.{Step, stepOn, stepBy}
 use Rattle.model.specs.Calls.{formAnswer, fitAnswer, shownColumn}
 use Rattle.model.proofs.Raw.{entries-length, layer-length}
 use Rattle.model.proofs.Edits.{before-follows}
-use Rattle.model.proofs.Fit.{Good, good-form, good-fits, keys-length}
+use Rattle.model.proofs.Fit.{good-form, good-fits, keys-length}
 use Rattle.model.proofs.Column.{Wide, column-read}
 use Rattle.model.proofs.Edited.{Reads}
 use Rattle.model.proofs.Steps.{empty-good, empty-reads, step-reads}
@@ -84,9 +84,15 @@ module _ (c m : ℕ) (raw : List ℕ) (T : Table) (x : Step) (k : ℕ) (h : step
   inside : (k ≤ 512) × (k * (c + 2) ≤ length after)
   unfolding behind
   inside =
-      let w = in-room c (length raw) k (A .room) in
-      (w .0, omega (arith, length-append (flat c M) behind, ap (λ (n : ℕ). n * (c + 2)) (A .size),
-        flat-length c M (λ e n. sound-wide c (length T) (A .form .held .some) e (R .good .each e n))))
+      let w = in-room c (length raw) k (A .room) in (
+        w .0,
+        omega (
+          arith,
+          length-append (flat c M) behind,
+          ap (λ (n : ℕ). n * (c + 2)) (A .size),
+          flat-length c M (λ e n. sound-wide c (length T) (A .form .held .some) e (R .good .each e n)),
+        ),
+      )
 
   args : argsOk c (length T) k (length after) ≡ true
   unfolding argsOk

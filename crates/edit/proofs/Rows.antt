@@ -1,12 +1,12 @@
 -- An edit of a row number: of the base row or of the added entry that stands behind it.
 -- Assumes nothing.
-use Prim.Native.Nat.{ℕ, suc, _+_, _-_, _*_, _≤_, _<_}
+use Prim.Native.Nat.{ℕ, _+_, _-_, _*_, _≤_, _<_}
 use native.Mathlib.Omega.{arith}
-use mathlib.Core.Path.{_≡_, refl, sym, ap, _∙_, subst}
-use mathlib.Core.Bool.{Bool, true, false, _&&_}
-use mathlib.Core.List.{List, [], _∷_, _++_, List·Memᴰ·not-nil as not-nil}
-use lib.ListN.{length, take, drop, set}
-use lib.Dec.{ltb, leb, eqb}
+use mathlib.Core.Path.{_≡_, sym, ap, _∙_, subst}
+use mathlib.Core.Bool.{false}
+use mathlib.Core.List.{List, [], List·Memᴰ·not-nil as not-nil}
+use lib.ListN.{length, set}
+use lib.Dec.{leb, eqb}
 use borrow.Author.Tests.{le-ltb, eqb-true}
 use Rattle.order.specs.Lists.{without}
 use Rattle.order.proofs.Tests.{and-r}
@@ -14,15 +14,13 @@ use Rattle.order.proofs.Ascending.{At, at-mem, at-length}
 use Rattle.model.specs.declared.Refusal.{Refusal}
 use Rattle.model.specs.declared.Answer.{Answer}
 use Rattle.model.specs.declared.Answer.the-variants.{Done, Refused}
-use Rattle.model.specs.declared.Back.{Back}
 use Rattle.model.specs.declared.Back.the-variants as backed
 use Rattle.model.specs.Row.{Row}
 use Rattle.model.specs.Cell.{to}
-use Rattle.model.specs.Layer.{add, Edit, at, Layer, rowsAfter, struck}
+use Rattle.model.specs.Layer.{add, at, Layer, rowsAfter, struck}
 use Rattle.model.specs.Raw.{layerOf, flat, room}
-use Rattle.model.specs.Form.{sound}
 use Rattle.model.specs.Position.{Origin, base, added, back}
-use Rattle.model.specs.Edits.{strikeBase, strikeOrigin, strikeRow, changeBase, changeAdded, changeOrigin, changeRowNo}
+use Rattle.model.specs.Edits.{strikeBase, strikeRow, changeBase, changeRowNo}
 use Rattle.model.specs.Calls.{originAnswer, edited}
 use Rattle.model.proofs.Origin.{Stands}
 use Rattle.write.specs.Replaced.{replaced}

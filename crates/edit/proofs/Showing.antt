@@ -1,35 +1,24 @@
 -- Whether a key is shown, from what stands where its add would land: an add of that key, the base row of that key, or its strike.
 -- Assumes nothing.
-use Prim.Native.Nat.{ℕ, zero, suc, _+_, _-_, _*_, _≤_, _<_}
+use Prim.Native.Nat.{ℕ, _+_, _-_, _*_, _≤_, _<_}
 use native.Mathlib.Omega.{arith}
 use mathlib.Core.Path.{_≡_, refl, sym, ap, _∙_, subst}
 use mathlib.Core.Logic.{_⊎_, inl, inr, ⊎-elim}
-use mathlib.Core.Bool.{Bool, true, false, not, cond, _&&_, _||_, true≢false, and-true, and-false}
-use mathlib.Core.List.{
-  List,
-  [],
-  _∷_,
-  _++_,
-  List·Memᴰ as Mem,
-  List·Memᴰ·head as here,
-  List·Memᴰ·tail as next,
-  List·Memᴰ·not-nil as not-nil,
-  List·Memᴰ·cases-cons as cases-cons,
-  List·Memᴰ·append-cases as append-cases,
-}
+use mathlib.Core.Bool.{Bool, true, false, not, cond, _&&_, true≢false, and-true, and-false}
+use mathlib.Core.List.{List, [], _∷_, List·Memᴰ as Mem, List·Memᴰ·head as here, List·Memᴰ·not-nil as not-nil, List·Memᴰ·cases-cons as cases-cons, List·Memᴰ·append-cases as append-cases}
 use lib.ListN.{length, getD, take, drop, take-append-drop}
-use lib.Dec.{ltb, leb, eqb}
-use borrow.Author.Tests.{eqb-true, eq-eqb, ne-eqb, ltb-true, lt-ltb, not-true, ltb-false}
-use Rattle.order.specs.Lists.{count, any}
-use Rattle.order.proofs.Tests.{tests, and-l, and-r, and-of, same-test, not-passed, eqb-sym}
+use lib.Dec.{ltb, eqb}
+use borrow.Author.Tests.{eqb-true, eq-eqb, ltb-true, not-true, ltb-false}
+use Rattle.order.specs.Lists.{count}
+use Rattle.order.proofs.Tests.{and-l, and-r, and-of, same-test, not-passed}
 use Rattle.order.proofs.Members.{any-mem, any-of, map-mem, mem-map}
 use Rattle.order.proofs.Counts.{count-le}
 use Rattle.order.proofs.Pairs.{AllPairs}
-use Rattle.order.proofs.Ascending.{AscFrom, At, below, at-mem, at-count, at-length, getD-at, count-strict}
+use Rattle.order.proofs.Ascending.{At, below, at-mem, at-count, at-length, getD-at, count-strict}
 use Rattle.model.specs.declared.Entry.{Entry}
 use Rattle.model.specs.Row.{Row, Table, key, keys}
 use Rattle.model.specs.Cell.{to}
-use Rattle.model.specs.Layer.{Deed, add, strike, change, Edit, at, Layer, position, struck, strikesRow, changed}
+use Rattle.model.specs.Layer.{Deed, add, strike, change, Edit, at, Layer, struck, changed}
 use Rattle.model.specs.Raw.{ADD, STRIKE, entryAt, deedOf, editOf, layerOf}
 use Rattle.model.specs.Fit.{keysBelow}
 use Rattle.model.specs.Read.{read, keysAfter}
@@ -38,7 +27,7 @@ use Rattle.model.specs.Edits.{deedBefore, before}
 use Rattle.model.proofs.Edits.{before-cases, before-lt, before-eq, before-trans, before-asym}
 use Rattle.model.proofs.Layer.{struck-of, of-struck, changed-key}
 use Rattle.model.proofs.Read.{Shown, shown, shows-row, shows-add}
-use Rattle.model.proofs.Fit.{Fit, Good, key-kept, key-of, below-keys}
+use Rattle.model.proofs.Fit.{Fit, key-kept, key-of, below-keys}
 use Rattle.model.proofs.Column.{keys-read}
 use Rattle.edit.specs.Landing.{aim, landing}
 use Rattle.edit.specs.Ready.{entryIs, numberIs}

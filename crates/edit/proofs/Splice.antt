@@ -12,8 +12,8 @@ use mathlib.Core.List.{
   List·Memᴰ·tail as next,
   List·Memᴰ·not-nil as not-nil,
 }
-use Prim.Native.Nat.{ℕ, zero, suc, _+_, _≤_, _<_}
-use native.Mathlib.Nat.{zero-add, suc-add}
+use Prim.Native.Nat.{ℕ, zero, suc, _+_, _≤_}
+use native.Mathlib.Nat.{suc-add}
 use native.Mathlib.Omega.{arith}
 use lib.ListN.{length, take, drop, take-append-drop}
 use lib.Seq.{drop-drop, drop-nil}
@@ -22,12 +22,6 @@ use Rattle.order.proofs.Tests.{not-passed}
 use Rattle.order.proofs.Pairs.{AllPairs}
 
 module _ {A : Type 0} where
-  pub take-mem : (i : ℕ) (L : List A) (x : A) → Mem x (take i L) → Mem x L
-  take-mem zero L x m = absurd (not-nil m)
-  take-mem (suc i) [] x m = absurd (not-nil m)
-  take-mem (suc i) (y ∷ L) x (here e) = here e
-  take-mem (suc i) (y ∷ L) x (next m) = next (take-mem i L x m)
-
   pub drop-mem : (i : ℕ) (L : List A) (x : A) → Mem x (drop i L) → Mem x L
   drop-mem zero L x m = m
   drop-mem (suc i) [] x m = m

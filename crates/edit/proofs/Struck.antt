@@ -1,28 +1,26 @@
 -- Striking a base row: its changes stand together, right where the strike lands.
 -- Assumes nothing.
-use Prim.Native.Nat.{ℕ, zero, suc, _+_, _-_, _*_, _≤_, _<_}
-use native.Mathlib.Nat.{sub-zero, zero-sub, suc-sub-suc}
+use Prim.Native.Nat.{ℕ, suc, _+_, _-_, _≤_, _<_}
 use native.Mathlib.Omega.{arith}
 use mathlib.Core.Path.{_≡_, refl, sym, ap, _∙_}
-use mathlib.Core.Logic.{_⊎_, inl, inr, ⊎-elim}
-use mathlib.Core.Bool.{Bool, true, false, not, cond, _&&_, _||_, true≢false}
+use mathlib.Core.Logic.{_⊎_, ⊎-elim}
+use mathlib.Core.Bool.{Bool, true, false, not, cond, true≢false}
 use mathlib.Core.List.{List, [], _∷_, _++_, List·Memᴰ as Mem}
-use lib.ListN.{length, getD, take, drop}
-use lib.Seq.{take-nil}
-use lib.Dec.{ltb, eqb}
-use borrow.Author.Tests.{eqb-true, eq-eqb, ne-eqb, ltb-true}
-use Rattle.order.specs.Lists.{insert, filter, firstAt}
+use lib.ListN.{getD, take, drop}
+use lib.Dec.{ltb}
+use borrow.Author.Tests.{eq-eqb, ne-eqb, ltb-true}
+use Rattle.order.specs.Lists.{firstAt}
 use Rattle.order.proofs.Tests.{tests, not-passed}
 use Rattle.order.proofs.Pairs.{AllPairs}
-use Rattle.model.specs.Row.{Row, key}
+use Rattle.model.specs.Row.{key}
 use Rattle.model.specs.Layer.{Deed, add, strike, change, Edit, at, Layer, position, struck, changesRow}
 use Rattle.model.specs.Raw.{ADD, STRIKE}
 use Rattle.model.specs.Edits.{deedBefore, before, strikeBase}
 use Rattle.model.proofs.Edits.{before-cases, before-lt, before-trans, before-eq}
 use Rattle.model.proofs.Layer.{struck-of}
+use Rattle.write.proofs.Layers.{take-mem, part}
 use Rattle.edit.specs.Landing.{aim, landing}
-use Rattle.edit.proofs.Splice.{take-mem, drop-mem, front, rest, splice}
-use Rattle.edit.proofs.Landed.{landing-le}
+use Rattle.edit.proofs.Splice.{drop-mem, front, rest, splice}
 
 -- a strike stands where its position puts it, whatever its key
 same-strike : (d : Edit) (s k l : ℕ) → before d (at s (strike k)) ≡ before d (at s (strike l))
@@ -88,13 +86,6 @@ land-mono e f h (x ∷ L) = go (land-mono e f h L) (before x e) refl
         → cond (not t) 0 (suc (firstAt (λ d. not (before d e)) L)) ≤ cond (not (before x f)) 0 (suc (firstAt (λ d. not (before d f)) L))
     go ih true g = rw (h x g) (omega arith)
     go ih false g = omega arith
-
--- a part of a list from i up to j
-part : (i j : ℕ) (L : Layer) → take (j - i) (drop i L) ≡ drop i (take j L)
-part zero j L = rw sub-zero
-part (suc i) zero L = rw zero-sub
-part (suc i) (suc j) [] = take-nil (suc j - suc i)
-part (suc i) (suc j) (x ∷ L) = rw suc-sub-suc (part i j L)
 
 module _ (s : ℕ) (L : Layer) (sorted : AllPairs before L) where
   abbrev i : ℕ

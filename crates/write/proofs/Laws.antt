@@ -1,16 +1,16 @@
 -- The numbers of a slice whose tail is moved and into whose gap an entry is written; what fits its room.
 -- Assumes nothing.
-use Prim.Native.Nat.{ℕ, zero, suc, _+_, _*_, _-_, _≤_, _<_, min, _/_}
-use native.Mathlib.Nat.{add-zero, add-mul, suc-mul, mul-le-mul-right, min-eq-left, min-eq-right, min-le-left, min-le-right, le-min, le-div-iff-mul-le}
+use Prim.Native.Nat.{ℕ, zero, suc, _+_, _*_, _-_, _≤_, _<_, _/_}
+use native.Mathlib.Nat.{suc-mul, mul-le-mul-right, min-le-left, min-le-right, le-min, le-div-iff-mul-le}
 use native.Mathlib.Omega.{arith}
 use mathlib.Core.Path.{_≡_, refl, sym, ap, _∙_}
-use mathlib.Core.List.{List, [], _∷_, _++_, append-assoc}
-use lib.ListN.{length, getD, take, drop, set, replicate, length-append, length-drop, length-replicate, take-append-drop}
-use lib.Seq.{paste, paste-zero, length-take-le, take-at, drop-at, drop-drop, take-append-le, take-take, take-all, take-add}
+use mathlib.Core.List.{List, _++_, append-assoc}
+use lib.ListN.{length, take, drop, set, replicate, length-append, length-drop, length-replicate, take-append-drop}
+use lib.Seq.{paste, paste-zero, length-take-le, drop-at, drop-drop, take-append-le, take-take, take-all}
 use Rattle.run.proofs.Laws.{copy-more, paste-paste}
 use Rattle.model.specs.declared.Entry.{Entry}
 use Rattle.model.specs.Raw.{Held, room}
-use Rattle.write.specs.Replaced.{entryNumbers, movedTail, replaced}
+use Rattle.write.specs.Replaced.{entryNumbers, movedTail}
 
 -- a run with zeros behind it, taken whole
 behind-run : (n k : ℕ) (s : List ℕ) → n ≤ length s → take (n + k) (take n s ++ replicate k 0) ≡ take n s ++ replicate k 0

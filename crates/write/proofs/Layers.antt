@@ -1,15 +1,14 @@
 -- A layer's slice with entries replaced is the new layer, zeros where entries were freed, then what stood there before.
 -- Assumes nothing.
 use Prim.Native.Nat.{ℕ, zero, suc, _+_, _*_, _-_, _≤_, _<_, max}
-use native.Mathlib.Nat.{zero-add, suc-add, sub-self, zero-mul, suc-mul, sub-zero, zero-sub, suc-sub-suc, add-mul, add-assoc, mul-le-mul-right, mul-comm, mul-sub, max-eq-left, max-eq-right}
-use native.Mathlib.Numerals.{add-one}
+use native.Mathlib.Nat.{zero-add, suc-add, sub-self, zero-mul, suc-mul, sub-zero, zero-sub, suc-sub-suc, add-mul, mul-le-mul-right, mul-comm, mul-sub}
 use native.Mathlib.Omega.{arith}
 use mathlib.Core.Path.{_≡_, refl, sym, ap, _∙_}
-use mathlib.Core.Bool.{Bool, true, false, cond, _&&_}
+use mathlib.Core.Bool.{true}
 use mathlib.Core.List.{List, [], _∷_, _++_, append-assoc, List·Memᴰ as Mem, List·Memᴰ·head as here, List·Memᴰ·tail as next, List·Memᴰ·not-nil as not-nil}
-use lib.ListN.{length, getD, take, drop, set, replicate, length-append, length-drop, length-replicate, length-set, take-append-drop, drop-of-length-le}
-use lib.Seq.{take-nil, drop-nil, length-take-le, take-at, drop-at, drop-drop, take-take, take-all, set-append-left, drop-set-lt, take-set-lt}
-use lib.Dec.{leb, ltb, eqb}
+use lib.ListN.{length, take, drop, set, replicate, length-append, length-drop, length-replicate, take-append-drop}
+use lib.Seq.{take-nil, length-take-le, take-at, drop-at, take-take, set-append-left}
+use lib.Dec.{leb, eqb}
 use borrow.Author.Tests.{eqb-true}
 use Rattle.order.specs.Lists.{gather}
 use Rattle.order.proofs.Tests.{and-r}
@@ -21,7 +20,7 @@ use Rattle.model.specs.Cell.{to, put}
 use Rattle.model.specs.Layer.{Edit, at, add, strike, change, Layer}
 use Rattle.model.specs.Raw.{numbersOf, flat, strikeEntry, changeEntry}
 use Rattle.model.specs.Form.{sound}
-use Rattle.model.specs.Edits.{changeAddedRow, changeAdded}
+use Rattle.model.specs.Edits.{changeAdded}
 use Rattle.model.specs.Calls.{edited}
 use Rattle.write.specs.Replaced.{entryNumbers, movedTail, replaced}
 
@@ -65,14 +64,14 @@ flat-length c [] w = sym (zero-mul (c + 2))
 flat-length c (e ∷ L) w =
     omega (arith, length-append (numbersOf c e) (flat c L), w e (here refl), flat-length c L (λ d m. w d (next m)), suc-mul (length L) (c + 2))
 
-take-mem : {A : Type 0} (i : ℕ) (L : List A) (e : A) → Mem e (take i L) → Mem e L
+pub take-mem : {A : Type 0} (i : ℕ) (L : List A) (e : A) → Mem e (take i L) → Mem e L
 take-mem zero L e m = absurd (not-nil m)
 take-mem (suc i) [] e m = absurd (not-nil m)
 take-mem (suc i) (x ∷ L) e (here f) = here f
 take-mem (suc i) (x ∷ L) e (next m) = next (take-mem i L e m)
 
 -- a part of a list from `from` up to `end`, the two ways to say it
-part : (from end : ℕ) (xs : List ℕ) → take (end - from) (drop from xs) ≡ drop from (take end xs)
+pub part : {A : Type 0} (from end : ℕ) (xs : List A) → take (end - from) (drop from xs) ≡ drop from (take end xs)
 part zero end xs = rw sub-zero
 part (suc from) zero xs = rw zero-sub
 part (suc from) (suc end) [] = take-nil (suc end - suc from)

@@ -1,7 +1,6 @@
 -- `edit::add` meets its contract: the refusals in the table's order, then the add of the row.
 -- Assumes nothing.
 use borrow.Author.Needs.{needs}
-use native.Mathlib.Omega.{arith}
 use mathlib.Core.Path.{_≡_, refl, sym, _∙_}
 use lib.ListN.{length}
 use Rattle.model.specs.declared.Answer.the-variants.{Done, Refused}

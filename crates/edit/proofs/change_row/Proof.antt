@@ -1,9 +1,7 @@
 -- Changing a column of a row number: of the base row or of the added entry behind it.
 -- Assumes nothing.
 use borrow.Author.Needs.{needs}
-use native.Mathlib.Omega.{arith}
 use mathlib.Core.Path.{_≡_, sym, _∙_}
-use Prim.Native.Nat.{ℕ, _≤_, _<_}
 use lib.ListN.{length}
 use Rattle.model.specs.declared.Back.the-variants as backed
 use Rattle.model.specs.Raw.{layerOf}

@@ -3,8 +3,8 @@
 use borrow.Author.Needs.{needs}
 use native.Mathlib.Omega.{arith}
 use mathlib.Core.Path.{_≡_, sym, _∙_}
-use Prim.Native.Nat.{ℕ, _+_, _≤_}
-use lib.ListN.{length, length-set, take}
+use Prim.Native.Nat.{_≤_}
+use lib.ListN.{length, length-set}
 use lib.Seq.{length-take-le}
 use Rattle.write.proofs.Laws.{store-all}
 use Rattle.write.proofs.store.Statement.{statement}

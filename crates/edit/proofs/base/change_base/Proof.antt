@@ -1,11 +1,8 @@
 -- Changing a cell of a base row: its old change is replaced where it stands, or the new one is entered where it lands.
 -- Assumes nothing.
 use borrow.Author.Needs.{needs}
-use native.Mathlib.Omega.{arith}
-use mathlib.Core.Path.{_≡_, sym, ap, _∙_}
-use mathlib.Core.Bool.{true, false}
-use Prim.Native.Nat.{ℕ, _+_, _-_, _≤_}
-use Rattle.edit.specs.Ready.{numberIs}
+use mathlib.Core.Path.{sym, _∙_}
+use Prim.Native.Nat.{_-_}
 use Rattle.edit.proofs.Known.{Known, known}
 use Rattle.edit.proofs.Cores.{on-old, change-on-old, off-old, change-off-old}
 use Rattle.edit.proofs.base.change_base.Statement.{statement}

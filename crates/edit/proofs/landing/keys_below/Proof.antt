@@ -1,14 +1,11 @@
 -- Counting the keys below k: those counted, and those from number i on, are all of them.
 -- Assumes nothing.
 use borrow.Author.Needs.{needs}
-use borrow.Author.Tests.{lt-ltb, le-ltb}
-use native.Mathlib.Nat.{zero-add}
 use native.Mathlib.Omega.{arith}
-use mathlib.Core.Path.{_≡_, refl, sym, ap, _∙_}
+use mathlib.Core.Path.{_≡_}
 use mathlib.Core.Logic.{⊎-elim}
-use Prim.Native.Nat.{ℕ, _+_, _-_, _≤_}
+use Prim.Native.Nat.{_+_, _-_, _≤_}
 use lib.ListN.{length, getD, drop}
-use Rattle.order.specs.Lists.{one}
 use Rattle.model.specs.Fit.{keysBelow}
 use Rattle.order.proofs.Tests.{one-lt, one-ge}
 use Rattle.edit.proofs.Landed.{below-step, below-end}
