@@ -78,11 +78,22 @@ module _ (c m : ℕ) (raw K : List ℕ) (row : Row) (N : Known c m raw K) (l : l
     module _ (fits : m + 1 ≤ room c (length raw)) where
       pub add-too-many : 4096 ≤ rowsAfter (length K) L → Refused (refusal 10 0) ≡ addRest c m raw K row
       add-too-many h =
-          rw (free, le-ltb (room c (length raw)) (length M) (omega (arith, size)), lt-ltb 4096 (rowsAfter (length K) M) (omega (arith, rows)))
+          rw (
+            free,
+            le-ltb (room c (length raw)) (length M) (omega (arith, size)),
+            lt-ltb 4096
+                (rowsAfter (length K) M) (omega (arith, rows)),
+          )
 
       pub add-done : rowsAfter (length K) L < 4096 → Done (m + 1) ≡ addRest c m raw K row
       add-done h =
-          rw (free, le-ltb (room c (length raw)) (length M) (omega (arith, size)), le-ltb 4096 (rowsAfter (length K) M) (omega (arith, rows)), ← size)
+          rw (
+            free,
+            le-ltb (room c (length raw)) (length M) (omega (arith, size)),
+            le-ltb 4096
+                (rowsAfter (length K) M) (omega (arith, rows)),
+            ← size,
+          )
 
   -- where the add lands
   module _ (i : ℕ) (lands : i ≡ landing (aim p ADD (key row)) L) where
@@ -94,7 +105,8 @@ module _ (c m : ℕ) (raw K : List ℕ) (row : Row) (N : Known c m raw K) (l : l
     add-splice =
         insert-at before (at p (add row)) i L
         (λ d n. sym (aim-add d p row) ∙ front before (aim p ADD (key row)) L d (rw lands at n))
-        (λ d n. sym (aim-add d p row) ∙ rest before (aim p ADD (key row)) before-trans L (N .good .fit .sorted) d (rw lands at n))
+        (λ d n. sym (aim-add d p row) ∙ rest before (aim p ADD (key row)) before-trans L (N .good .fit .sorted) d
+        (rw lands at n))
         ∙ ap (λ (n : ℕ). take i L ++ (at p (add row) ∷ drop n L)) (sym (add-zero i))
 
     pub add-slice : (e : Entry) → e ≡ addEntry p (row ++ replicate (8 - length row) 0)

@@ -76,12 +76,14 @@ pub stands : (c m : ℕ) (raw K : List ℕ) (r : ℕ) → Known c m raw K → r 
 stands c m raw K r N h =
     let L = layerOf c m raw in
     let T = singles K in
-    let e : length (read T L) ≡ rowsAfter (length K) L = read-length T L (N .good .fit) ∙ ap (λ (n : ℕ). rowsAfter n L) (singles-length K) in
+    let e : length (read T L) ≡ rowsAfter (length K) L = read-length T L (N .good .fit)
+    ∙ ap (λ (n : ℕ). rowsAfter n L) (singles-length K) in
     let w = back-row T L r (getD (read T L) r []) (getD-at (read T L) r [] (omega (arith, e))) in
     rw (singles-length K) at (w .stands)
 
 -- the layer from number i on begins with the edit of entry i
-pub entry-edit : (c m i : ℕ) (raw : List ℕ) → i < m → getD (layerOf c m raw) i (editOf none) ≡ editOf (entryAt c (i * (c + 2)) raw)
+pub entry-edit : (c m i : ℕ) (raw : List ℕ) → i < m → getD (layerOf c m raw) i (editOf none) ≡ editOf
+    (entryAt c (i * (c + 2)) raw)
 unfolding layerOf
 entry-edit c m i raw h =
     List·getD-map editOf (entriesOf c m raw) i none
@@ -107,7 +109,8 @@ module _ (c m i p k : ℕ) (raw : List ℕ) (f : Edit → Bool) (is : (E : Entry
   pub head-is : numberIs c m raw i p k ≡ true → f (editOf E) ≡ true
   head-is t = is E ∙ and-r (ltb i m) (entryIs p k E) t
 
-  pub head-not : numberIs c m raw i p k ≡ false → (x : Edit) (R : Layer) → drop i (layerOf c m raw) ≡ x ∷ R → f x ≡ false
+  pub head-not : numberIs c m raw i p k ≡ false → (x : Edit) (R : Layer) → drop i (layerOf c m raw) ≡ x ∷ R
+      → f x ≡ false
   head-not t x R g = go (ltb i m) refl
     where
       go : (u : Bool) → ltb i m ≡ u → f x ≡ false

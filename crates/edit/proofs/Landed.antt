@@ -40,7 +40,8 @@ kind-before q k v vs false false true y = refl
 kind-before q k v vs false false false true = refl
 kind-before q k v vs false false false false = refl
 
-pub stands-is : (e : Entry) (s k v : ℕ) → standsBefore (e .pos) (e .kind) (getD (e .vals) 0 0) s k v ≡ before (editOf e) (aim s k v)
+pub stands-is : (e : Entry) (s k v : ℕ) → standsBefore (e .pos) (e .kind) (getD (e .vals) 0 0) s k v ≡ before
+    (editOf e) (aim s k v)
 stands-is e s k v =
     ap (λ (t : Bool). ltb (e .pos) s || (eqb (e .pos) s && t))
     (kind-before (e .kind) k v (e .vals) (eqb (e .kind) ADD) (eqb (e .kind) STRIKE) (eqb k ADD) (eqb k STRIKE))
@@ -48,11 +49,13 @@ stands-is e s k v =
 -- The entries from number i of m on, the first of which stands at `from`.
 module _ (c m i from : ℕ) (xs : List ℕ) (e : Edit) where
   pub landing-step : i < m → before (editOf (entryAt c from xs)) e ≡ true
-      → i + landing e (map editOf (entriesAt c (m - i) from xs)) ≡ i + 1 + landing e (map editOf (entriesAt c (m - (i + 1)) (from + (c + 2)) xs))
+      → i + landing e (map editOf (entriesAt c (m - i) from xs)) ≡ i + 1 + landing e
+      (map editOf (entriesAt c (m - (i + 1)) (from + (c + 2)) xs))
   unfolding landing
   landing-step h b = rw (edits-step c m i from xs h, b) (omega arith)
 
-  pub landing-stop : i < m → before (editOf (entryAt c from xs)) e ≡ false → i + landing e (map editOf (entriesAt c (m - i) from xs)) ≡ i
+  pub landing-stop : i < m → before (editOf (entryAt c from xs)) e ≡ false
+      → i + landing e (map editOf (entriesAt c (m - i) from xs)) ≡ i
   unfolding landing
   landing-stop h b = rw (edits-step c m i from xs h, b) (omega arith)
 
@@ -60,7 +63,8 @@ module _ (c m i from : ℕ) (xs : List ℕ) (e : Edit) where
   unfolding landing
   landing-end h = rw (edits-end c m i from xs h) (omega arith)
 
-pub begin : (c m : ℕ) (xs : List ℕ) (e : Edit) → landing e (layerOf c m xs) ≡ 0 + landing e (map editOf (entriesAt c (m - 0) 0 xs))
+pub begin : (c m : ℕ) (xs : List ℕ) (e : Edit) → landing e (layerOf c m xs) ≡ 0 + landing e
+    (map editOf (entriesAt c (m - 0) 0 xs))
 unfolding layerOf
 begin c m xs e = rw (sub-zero, zero-add)
 
@@ -70,7 +74,8 @@ landing-le e L = first-le before e L
 
 -- The keys from number i on.
 module _ (k : ℕ) (keys : List ℕ) (i : ℕ) where
-  pub below-step : i < length keys → keysBelow k (drop i keys) ≡ one (ltb (getD keys i 0) k) + keysBelow k (drop (i + 1) keys)
+  pub below-step : i < length keys → keysBelow k (drop i keys) ≡ one (ltb (getD keys i 0) k) + keysBelow k
+      (drop (i + 1) keys)
   below-step h = rw (add-one, drop-cons keys i 0)
 
   pub below-end : length keys ≤ i → keysBelow k (drop i keys) ≡ 0

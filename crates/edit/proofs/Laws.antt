@@ -1,5 +1,7 @@
--- The promises of the edits: an accepted call leaves a layer that keeps form and fits, so that the next call meets no refusal 2 or 4;
--- reading every column through it is the edited table; a run of calls from an empty layer is those edits done one after the other by key.
+-- The promises of the edits: an accepted call leaves a layer that keeps form and fits, so that the next call meets no
+-- refusal 2 or 4;
+-- reading every column through it is the edited table; a run of calls from an empty layer is those edits done one after
+-- the other by key.
 -- Assumes nothing.
 use Prim.Native.Nat.{ℕ, _+_, _-_, _*_, _≤_, _<_, max}
 use native.Mathlib.Omega.{arith}
@@ -69,12 +71,14 @@ module _ (c m : ℕ) (raw : List ℕ) (T : Table) (x : Step) (k : ℕ) (h : step
   -- the slice holds the new layer
   pub edit-layer : layerOf c k after ≡ M
   unfolding behind
-  edit-layer = read-back c (length T) (A .form .held .some) (A .form .held .columns) k M behind (A .size) (R .good .each)
+  edit-layer = read-back c (length T) (A .form .held .some) (A .form .held .columns) k M behind (A .size)
+      (R .good .each)
 
   -- it keeps form and fits
   pub edit-keeps-form : keepsForm c (length T) (layerOf c k after) ≡ true
   edit-keeps-form =
-      rw edit-layer (and-of (inOrder c (length T) M) (leb (rowsAfter (length T) M) 4096) (good-form c T M (A .rising) (R .good))
+      rw edit-layer (and-of (inOrder c (length T) M) (leb (rowsAfter (length T) M) 4096)
+      (good-form c T M (A .rising) (R .good))
       (le-leb (rowsAfter (length T) M) 4096 (A .rows)))
 
   pub edit-fits : fits K (layerOf c k after) ≡ true
@@ -99,18 +103,22 @@ module _ (c m : ℕ) (raw : List ℕ) (T : Table) (x : Step) (k : ℕ) (h : step
   args =
       and-of (leb 1 c) _ (le-leb 1 c (A .form .held .some)) (and-of (leb c 8) _ (le-leb c 8 (A .form .held .columns))
       (and-of (leb (length T) 4096) _ (le-leb (length T) 4096 (A .form .base))
-      (and-of (leb k 512) (leb (k * (c + 2)) (length after)) (le-leb k 512 (inside .0)) (le-leb (k * (c + 2)) (length after) (inside .1)))))
+      (and-of (leb k 512) (leb (k * (c + 2)) (length after)) (le-leb k 512 (inside .0))
+      (le-leb (k * (c + 2)) (length after) (inside .1)))))
 
   none-at-fault : formPlace c (length T) (entriesOf c k after) ≡ k
   unfolding formPlace behind layerOf
   none-at-fault =
-      of-unbroken (λ e. zeros e && sound c (length T) (editOf e)) (λ d e. follows (editOf d) (editOf e)) [] (entriesOf c k after) (record {
+      of-unbroken (λ e. zeros e && sound c (length T) (editOf e)) (λ d e. follows (editOf d) (editOf e)) []
+      (entriesOf c k after) (record {
         each = λ e n.
             and-of (zeros e) (sound c (length T) (editOf e))
-            (zeros-back c (length T) (A .form .held .some) (A .form .held .columns) k M behind (A .size) (R .good .each) e n)
+            (zeros-back c (length T) (A .form .held .some) (A .form .held .columns) k M behind (A .size)
+            (R .good .each) e n)
             (R .good .each (editOf e) (rw edit-layer at (mem-map editOf (entriesOf c k after) e n)));
         past = λ y z n l. absurd (not-nil n);
-        pairs = pairs-unmap (entriesOf c k after) (rw edit-layer (pairs-weaker before follows M (λ d e n l g. before-follows d e g) (R .good .fit .sorted)));
+        pairs = pairs-unmap (entriesOf c k after)
+            (rw edit-layer (pairs-weaker before follows M (λ d e n l g. before-follows d e g) (R .good .fit .sorted)));
       })
       ∙ entries-length c k 0 after
 
@@ -122,8 +130,13 @@ module _ (c m : ℕ) (raw : List ℕ) (T : Table) (x : Step) (k : ℕ) (h : step
   pub edit-next : fitAnswer c k after K ≡ Done 0
   unfolding fits
   edit-next =
-      sym (fit-accepted c k after K (rowsAfter (length T) M) (rw (keys-length T) edit-next-form) (of-asc key T (A .rising))
-      (omega (arith, eqb-true (fitPlace K (layerOf c k after)) (length (layerOf c k after)) edit-fits, layer-length c k after)))
+      sym (fit-accepted c k after K (rowsAfter (length T) M) (rw (keys-length T) edit-next-form)
+      (of-asc key T (A .rising))
+      (omega (
+        arith,
+        eqb-true (fitPlace K (layerOf c k after)) (length (layerOf c k after)) edit-fits,
+        layer-length c k after,
+      )))
 
   -- what is read through it is the edited table, and so is every column of it
   pub edit-reads : read T (layerOf c k after) ≡ stepBy x (read T L)
@@ -154,4 +167,5 @@ module _ (c : ℕ) (T : Table) where
 
   pub run-columns : (xs : List Step) (raw : List ℕ) (n : ℕ) (end : List ℕ) → Ran c (keys T) xs 0 raw n end
       → Wide c T → (j : ℕ) → j < c → shownColumn c n end (column j T) j ≡ column j (inTurn stepBy xs T)
-  run-columns xs raw n end r w j l = sym (column-read c j T (layerOf c n end) w l) ∙ ap (column j) (run-reads xs raw n end r)
+  run-columns xs raw n end r w j l = sym (column-read c j T (layerOf c n end) w l)
+      ∙ ap (column j) (run-reads xs raw n end r)

@@ -60,7 +60,8 @@ module _ (c m : ℕ) (raw K : List ℕ) (r : ℕ) (N : Known c m raw K) (h : r <
     pub base-stands : (s < length K) × (struck s L ≡ false)
     base-stands = subst (Stands (length K) L) is-base (stands c m raw K r N h)
 
-    pub strike-of-base : (x : Answer) (new : List ℕ) → Entered c m (strikeBase K s L) raw x new → Entered c m (strikeRow K r L) raw x new
+    pub strike-of-base : (x : Answer) (new : List ℕ) → Entered c m (strikeBase K s L) raw x new
+        → Entered c m (strikeRow K r L) raw x new
     unfolding strikeRow
     strike-of-base x new w = rw is-base w
 
@@ -80,12 +81,14 @@ module _ (c m : ℕ) (raw K : List ℕ) (r : ℕ) (N : Known c m raw K) (h : r <
     pub added-below : i < m
     added-below = omega (arith, at-length (entry .2), N .written .size)
 
-    pub strike-of-added : (new : List ℕ) → new ≡ replaced c m i 1 [] raw → Entered c m (strikeRow K r L) raw (Done (m - 1)) new
+    pub strike-of-added : (new : List ℕ) → new ≡ replaced c m i 1 [] raw
+        → Entered c m (strikeRow K r L) raw (Done (m - 1)) new
     unfolding strikeRow flat
     strike-of-added new w = rw is-added (record {
       answer = fewer (m - 1) (omega arith) ∙ ap (countAnswer c (length raw)) size;
       slice =
-          w ∙ (replaced-edited c m raw L (N .written) i 1 (omega (arith, added-below)) [] (λ d k. absurd (not-nil k)) (m - 1)
+          w ∙ (replaced-edited c m raw L (N .written) i 1 (omega (arith, added-below)) [] (λ d k. absurd (not-nil k))
+          (m - 1)
           ∙ ap (λ (M : Layer). edited c m (Done (m - 1)) M raw) (sym (without-at i L)));
     })
       where
@@ -108,4 +111,5 @@ module _ (c m : ℕ) (raw K : List ℕ) (r : ℕ) (N : Known c m raw K) (h : r <
         wide : length (entry .1) ≡ c
         wide =
             eqb-true (length (entry .1)) c
-            (and-r (leb (entry .0) (length K)) (eqb (length (entry .1)) c) (N .acc .each (at (entry .0) (add (entry .1))) (at-mem (entry .2))))
+            (and-r (leb (entry .0) (length K)) (eqb (length (entry .1)) c)
+            (N .acc .each (at (entry .0) (add (entry .1))) (at-mem (entry .2))))

@@ -1,5 +1,6 @@
 -- Any two outcomes that a call's contract allows are equal: the answers, and what the layer's slice holds afterwards.
--- `Post` is the contract as the call is proved to meet it; κs are its lifetimes, a its arguments, s what is lent at its end.
+-- `Post` is the contract as the call is proved to meet it; κs are its lifetimes, a its arguments, s what is lent at its
+-- end.
 -- Assumes nothing.
 use mathlib.Core.Path.{_≡_, sym, ap, _∙_}
 use mathlib.Core.List.{List}
@@ -29,14 +30,16 @@ module _ (κs : Lfts 3) (a : Dens κs add-kinds.ps) (s s′ : AtExit (endedOf 3 
   pub add-unique : (r r′ : Answer) → add-contract.Post κs a r s → add-contract.Post κs a r′ s′
       → (r ≡ r′) × (now (s .1 .1 .0) ≡ now (s′ .1 .1 .0))
   add-unique r r′ p q =
-      one-outcome (a .0) (a .1 .0) (addedLayer (a .0) (a .1 .0) (now (a .1 .1 .0)) (now (a .1 .1 .1 .0)) (now (a .1 .1 .1 .1 .0)))
+      one-outcome (a .0) (a .1 .0)
+      (addedLayer (a .0) (a .1 .0) (now (a .1 .1 .0)) (now (a .1 .1 .1 .0)) (now (a .1 .1 .1 .1 .0)))
       (now (a .1 .1 .0)) _ _ _ r r′ p q
 
 module _ (κs : Lfts 2) (a : Dens κs strike-kinds.ps) (s s′ : AtExit (endedOf 2 strike-kinds.ps strike-kinds.r) κs) where
   pub strike-unique : (r r′ : Answer) → strike-contract.Post κs a r s → strike-contract.Post κs a r′ s′
       → (r ≡ r′) × (now (s .1 .1 .0) ≡ now (s′ .1 .1 .0))
   strike-unique r r′ p q =
-      one-outcome (a .0) (a .1 .0) (struckLayer (a .0) (a .1 .0) (now (a .1 .1 .0)) (now (a .1 .1 .1 .0)) (a .1 .1 .1 .1 .0))
+      one-outcome (a .0) (a .1 .0)
+      (struckLayer (a .0) (a .1 .0) (now (a .1 .1 .0)) (now (a .1 .1 .1 .0)) (a .1 .1 .1 .1 .0))
       (now (a .1 .1 .0)) _ _ _ r r′ p q
 
 module _ (κs : Lfts 2) (a : Dens κs change-kinds.ps) (s s′ : AtExit (endedOf 2 change-kinds.ps change-kinds.r) κs) where
@@ -44,5 +47,6 @@ module _ (κs : Lfts 2) (a : Dens κs change-kinds.ps) (s s′ : AtExit (endedOf
       → (r ≡ r′) × (now (s .1 .1 .0) ≡ now (s′ .1 .1 .0))
   change-unique r r′ p q =
       one-outcome (a .0) (a .1 .0)
-      (changedLayer (a .0) (a .1 .0) (now (a .1 .1 .0)) (now (a .1 .1 .1 .0)) (a .1 .1 .1 .1 .0) (a .1 .1 .1 .1 .1 .0) (a .1 .1 .1 .1 .1 .1 .0))
+      (changedLayer (a .0) (a .1 .0) (now (a .1 .1 .0)) (now (a .1 .1 .1 .0)) (a .1 .1 .1 .1 .0) (a .1 .1 .1 .1 .1 .0)
+      (a .1 .1 .1 .1 .1 .1 .0))
       (now (a .1 .1 .0)) _ _ _ r r′ p q

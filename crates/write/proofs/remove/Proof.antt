@@ -42,7 +42,8 @@ returns c =
     let a = c .before .before .before .before .before .args in
     let w = a .c + 2 in
     c .before .before .move-tail .ensures
-    ∙ ap (λ (n : ℕ). take (a .i * w) (a .layer .now) ++ movedTail n ((a .i + a .k) * w) (a .m * w) (a .layer .now)) (sym (add-zero (a .i * w)))
+    ∙ ap (λ (n : ℕ). take (a .i * w) (a .layer .now) ++ movedTail n ((a .i + a .k) * w) (a .m * w) (a .layer .now))
+    (sym (add-zero (a .i * w)))
 
 pub remove-spec : {M : Type 1} → statement M
 remove-spec =

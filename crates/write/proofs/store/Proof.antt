@@ -33,7 +33,8 @@ array-share-prefix-vals c = omega (arith, wide (c .before .before))
 
 slice-aggregate-copy-in : tie.Need-slice-aggregate-copy-in
 slice-aggregate-copy-in c =
-    let a = c .before .before .before .args in sym (length-take-le (a .c) (a .e .vals) (wide (c .before .before .before)))
+    let a = c .before .before .before .args in
+    sym (length-take-le (a .c) (a .e .vals) (wide (c .before .before .before)))
 
 add-copy-in : tie.Need-add-copy-in
 add-copy-in c = search needs

@@ -18,8 +18,11 @@ own : (c : tie.Else1) → let a = c .before .before .args in
     (a .i * (a .c + 2) + (a .c + 2) ≤ length (a .layer .now)) × (a .m * (a .c + 2) ≤ 5120)
 own c =
     let b = c .before .before in
-    let a = b .args in
-    (omega (arith, within (a .i) (a .m) (a .c + 2) (c .if1 .left), b .pre .room), small (b .pre .entries) (b .pre .columns))
+    let a = b .args in (
+      omega (arith, within (a .i) (a .m) (a .c + 2) (c .if1 .left), b .pre .room),
+      small (b .pre .entries)
+          (b .pre .columns),
+    )
 
 add-at : tie.Need-add-at
 add-at c = search needs

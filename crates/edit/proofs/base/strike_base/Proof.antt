@@ -43,7 +43,8 @@ sub-put-entry : tie.Need-sub-put-entry
 sub-put-entry c = turn c .0
 
 put-entry-requires : tie.Need-put-entry-requires
-put-entry-requires c κs = (knows (c .before .before .before .before .before .before .before .before .before) .acc .held, turn (c .before) .1)
+put-entry-requires c κs =
+    (knows (c .before .before .before .before .before .before .before .before .before) .acc .held, turn (c .before) .1)
 
 same-length : tie.Need-same-length
 same-length c = search needs
