@@ -17,7 +17,9 @@ use Rattle.order.proofs.Members.{mem-map}
 use Rattle.order.proofs.Pairs.{AllPairs, pairs-weaker, of-unbroken}
 use Rattle.order.proofs.Ascending.{of-asc}
 use Rattle.model.specs.declared.Entry.{Entry}
-use Rattle.model.specs.declared.Answer.the-variants.{Done}
+use Rattle.model.specs.declared.Refusal.{Refusal}
+use Rattle.model.specs.declared.Answer.{Answer}
+use Rattle.model.specs.declared.Answer.the-variants.{Done, Refused}
 use Rattle.model.specs.Row.{Table, key, keys, column}
 use Rattle.model.specs.Layer.{Layer, rowsAfter}
 use Rattle.model.specs.Raw.{editOf, entriesAt, entriesOf, layerOf, flat}
@@ -27,7 +29,7 @@ use Rattle.model.specs.Read.{read}
 use Rattle.model.specs.Refusals.{breaksForm}
 use Rattle.model.specs.Edits.{before}
 use Rattle.model.specs.Steps.{Step, stepOn, stepBy}
-use Rattle.model.specs.Calls.{formAnswer, fitAnswer, shownColumn}
+use Rattle.model.specs.Calls.{formAnswer, fitAnswer, shownColumn, edited}
 use Rattle.model.proofs.Raw.{entries-length, layer-length}
 use Rattle.model.proofs.Edits.{before-follows}
 use Rattle.model.proofs.Fit.{good-form, good-fits, keys-length}
@@ -38,8 +40,20 @@ use Rattle.form.proofs.Answers.{fit-accepted}
 use Rattle.write.proofs.Laws.{in-room}
 use Rattle.write.proofs.Layers.{sound-wide, flat-length}
 use Rattle.write.proofs.Readback.{read-back, zeros-back}
-use Rattle.edit.specs.Runs.{stepAnswer, stepSlice, Ran, still, first}
+use Rattle.edit.specs.Runs.{stepAnswer, Outcome, stepSlice, Ran, still, first}
 use Rattle.edit.proofs.Accepting.{Accepts, accepts}
+
+-- an outcome is an accepted step, or leaves the slice as it was
+pub accepted-outcome : (c m : ℕ) (raw K : List ℕ) (x : Step) (r : Answer) (new : List ℕ) (k : ℕ)
+    → Outcome c m raw K x r new
+    → r ≡ Done k → (stepAnswer c m raw K x ≡ Done k) × (new ≡ stepSlice c m raw K x k)
+accepted-outcome c m raw K x r new k o e =
+    (sym (o .0) ∙ e, o .1 ∙ ap (λ (t : Answer). edited c m t (stepOn K x (layerOf c m raw)) raw) e)
+
+pub refused-outcome : (c m : ℕ) (raw K : List ℕ) (x : Step) (r : Answer) (new : List ℕ) (y : Refusal)
+    → Outcome c m raw K x r new
+    → r ≡ Refused y → new ≡ raw
+refused-outcome c m raw K x r new y o e = o .1 ∙ ap (λ (t : Answer). edited c m t (stepOn K x (layerOf c m raw)) raw) e
 
 pairs-unmap : (xs : List Entry) → AllPairs follows (map editOf xs) → AllPairs (λ d e. follows (editOf d) (editOf e)) xs
 pairs-unmap [] p = tt
