@@ -104,15 +104,19 @@ module _ (a b x y : Bool) (u v q k : ℕ) where
 pub rule-by : (d e : Head) → ruleNumber (clash (seen d) (seen e))
     ≡ cond (eqb (d .kind) ADD && eqb (e .kind) ADD) (cond (eqb (d .first) (e .first)) 3 0)
     (cond (eqb (d .kind) ADD || eqb (e .kind) ADD) 0
-    (cond (eqb (d .pos) (e .pos)) (cond (eqb (d .kind) STRIKE || eqb (e .kind) STRIKE) 1 (cond (eqb (d .kind) (e .kind)) 2 0)) 0))
+    (cond (eqb (d .pos) (e .pos))
+    (cond (eqb (d .kind) STRIKE || eqb (e .kind) STRIKE) 1 (cond (eqb (d .kind) (e .kind)) 2 0)) 0))
 rule-by d e =
-    clash-kinds (eqb (d .kind) ADD) (eqb (d .kind) STRIKE) (eqb (e .kind) ADD) (eqb (e .kind) STRIKE) (d .first) (e .first) (d .kind) (e .kind)
+    clash-kinds (eqb (d .kind) ADD) (eqb (d .kind) STRIKE) (eqb (e .kind) ADD) (eqb (e .kind) STRIKE) (d .first)
+    (e .first) (d .kind) (e .kind)
     (d .pos) (e .pos)
 
 pub before-by : (d e : Head) → (ltb (d .pos) (e .pos) || (eqb (d .pos) (e .pos)
     && ((eqb (d .kind) ADD && (not (eqb (e .kind) ADD) || ltb (d .first) (e .first)))
-    || (not (eqb (d .kind) ADD) && (not (eqb (d .kind) STRIKE) && (not (eqb (e .kind) ADD) && (not (eqb (e .kind) STRIKE) && ltb (d .kind) (e .kind))))))))
+    || (not (eqb (d .kind) ADD) && (not (eqb (d .kind) STRIKE)
+    && (not (eqb (e .kind) ADD) && (not (eqb (e .kind) STRIKE) && ltb (d .kind) (e .kind))))))))
     ≡ before (seen d) (seen e)
 before-by d e =
     ap (λ (t : Bool). ltb (d .pos) (e .pos) || (eqb (d .pos) (e .pos) && t))
-    (level-kinds (eqb (d .kind) ADD) (eqb (d .kind) STRIKE) (eqb (e .kind) ADD) (eqb (e .kind) STRIKE) (d .first) (e .first) (d .kind) (e .kind))
+    (level-kinds (eqb (d .kind) ADD) (eqb (d .kind) STRIKE) (eqb (e .kind) ADD) (eqb (e .kind) STRIKE) (d .first)
+    (e .first) (d .kind) (e .kind))

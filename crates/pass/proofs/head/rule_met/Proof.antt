@@ -31,7 +31,13 @@ returns-6 c =
     let p = k .before .before .before in
     let n = p .before .before .before in
     rw rule-by
-    (simp (n .before .before .before .if1 .left, n .if3 .left, eq-eqb _ _ (p .if4 .left), k .if5 .left, eq-eqb _ _ (c .if6 .taken)))
+    (simp (
+      n .before .before .before .if1 .left,
+      n .if3 .left,
+      eq-eqb _ _ (p .if4 .left),
+      k .if5 .left,
+      eq-eqb _ _ (c .if6 .taken),
+    ))
 
 returns-7 : tie.Need-returns-7
 returns-7 c =
@@ -39,7 +45,13 @@ returns-7 c =
     let p = k .before .before .before in
     let n = p .before .before .before in
     rw rule-by
-    (simp (n .before .before .before .if1 .left, n .if3 .left, eq-eqb _ _ (p .if4 .left), k .if5 .left, ne-eqb _ _ (c .if6 .left)))
+    (simp (
+      n .before .before .before .if1 .left,
+      n .if3 .left,
+      eq-eqb _ _ (p .if4 .left),
+      k .if5 .left,
+      ne-eqb _ _ (c .if6 .left),
+    ))
 
 pub rule-met-spec : {M : Type 1} → statement M
 rule-met-spec =
