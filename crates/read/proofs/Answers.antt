@@ -3,27 +3,23 @@
 use Prim.Native.Nat.{ℕ, _≤_, _<_}
 use native.Mathlib.Omega.{arith}
 use mathlib.Core.Path.{_≡_, refl, sym, ap, _∙_}
-use mathlib.Core.Bool.{Bool, true, false, not, cond, _&&_, _||_, and-false}
+use mathlib.Core.Bool.{Bool, true, false, not, cond, _&&_, and-false}
 use mathlib.Core.List.{List}
-use lib.ListN.{length, getD}
-use lib.Dec.{ltb, eqb}
-use borrow.Author.Tests.{lt-ltb, le-ltb, ltb-true, ltb-false, eqb-true, eq-eqb, ne-eqb}
-use Rattle.order.specs.Lists.{any}
-use Rattle.order.proofs.Tests.{eqb-sym}
+use lib.ListN.{length}
+use lib.Dec.{ltb}
+use borrow.Author.Tests.{lt-ltb, le-ltb, ltb-true, ltb-false}
 use Rattle.model.specs.declared.Refusal.{Refusal}
-use Rattle.model.specs.declared.Entry.{Entry}
 use Rattle.model.specs.declared.Answer.{Answer}
 use Rattle.model.specs.declared.Answer.the-variants.{Done, Refused}
 use Rattle.model.specs.Layer.{rowsAfter}
-use Rattle.model.specs.Raw.{ADD, STRIKE, editOf, entriesOf, layerOf}
-use Rattle.model.specs.Form.{argsOk, formPlace}
-use Rattle.model.specs.Read.{touches, wholeBase, bufferFront, emptyBase}
+use Rattle.model.specs.Raw.{layerOf}
+use Rattle.model.specs.Form.{argsOk}
 use Rattle.model.specs.Refusals.{refusal, breaksForm}
-use Rattle.model.specs.Calls.{formAnswer, shownColumn, readAnswer, viewPart}
+use Rattle.model.specs.Calls.{formAnswer, shownColumn, readAnswer}
 use Rattle.form.proofs.Accepted.{Accepted, accepted}
 use Rattle.read.specs.Runs.{Readable}
 use Rattle.read.proofs.Ready.{ready}
-use Rattle.read.proofs.Rows.{rows-shown}
+use Rattle.read.proofs.Rows.{rows-formed}
 
 -- a refusal of the form is passed on
 abbrev andThen : Answer → Answer → Answer
@@ -32,7 +28,8 @@ andThen (Refused x) d = Refused x
 
 -- refusals 1 and 2 first, with the column number among the arguments
 form-first : (a b : Bool) (x y : Refusal) (k : ℕ) (d : Answer)
-    → cond (not (a && true)) (Refused x) (cond b (Refused y) d) ≡ andThen (cond (not a) (Refused x) (cond b (Refused y) (Done k))) d
+    → cond (not (a && true)) (Refused x) (cond b (Refused y) d)
+    ≡ andThen (cond (not a) (Refused x) (cond b (Refused y) (Done k))) d
 form-first true true x y k d = refl
 form-first true false x y k d = refl
 form-first false b x y k d = refl
@@ -41,18 +38,23 @@ module _ (c m : ℕ) (raw xs : List ℕ) (j len : ℕ) where
   abbrev rows : ℕ
   rows = length (shownColumn c m raw xs j)
 
+  -- the answer of an accepted form
+  abbrev roomAnswer : Answer
+  roomAnswer = cond (ltb len rows) (Refused (refusal 11 0)) (Done rows)
+
   pub column-refused : c ≤ j → Refused (refusal 1 0) ≡ readAnswer c m raw xs j len
   unfolding readAnswer
   column-refused h = rw (le-ltb j c h, and-false (argsOk c (length xs) m (length raw)))
 
-  after-form : j < c
-      → readAnswer c m raw xs j len ≡ andThen (formAnswer c (length xs) m raw) (cond (ltb len rows) (Refused (refusal 11 0)) (Done rows))
+  after-form : j < c → readAnswer c m raw xs j len ≡ andThen (formAnswer c (length xs) m raw) roomAnswer
   unfolding readAnswer formAnswer
   after-form h =
-      rw (lt-ltb j c h) (form-first (argsOk c (length xs) m (length raw)) (breaksForm c (length xs) m raw) _ _ (rowsAfter (length xs) (layerOf c m raw)) _)
+      rw (lt-ltb j c h)
+      (form-first (argsOk c (length xs) m (length raw)) (breaksForm c (length xs) m raw) _ _ (rowsAfter (length xs) (layerOf c m raw)) _)
 
-  pub form-refused : (x : Refusal) → j < c → formAnswer c (length xs) m raw ≡ Refused x → Refused x ≡ readAnswer c m raw xs j len
-  form-refused x h e = sym (after-form h ∙ ap (λ (a : Answer). andThen a (cond (ltb len rows) (Refused (refusal 11 0)) (Done rows))) e)
+  pub form-refused : (x : Refusal) → j < c → formAnswer c (length xs) m raw ≡ Refused x
+      → Refused x ≡ readAnswer c m raw xs j len
+  form-refused x h e = sym (after-form h ∙ ap (λ (a : Answer). andThen a roomAnswer) e)
 
   -- the form check counts the rows that are shown
   module _ (k : ℕ) (h : j < c) (e : formAnswer c (length xs) m raw ≡ Done k) where
@@ -60,10 +62,10 @@ module _ (c m : ℕ) (raw xs : List ℕ) (j len : ℕ) where
     took = accepted c (length xs) m raw k e
 
     pub counted : rows ≡ k
-    counted = rows-shown j xs (layerOf c m raw) (ready c (length xs) j (layerOf c m raw) (took .each) (took .pairs)) ∙ sym (took .shown)
+    counted = rows-formed c j xs (layerOf c m raw) (took .each) (took .pairs) ∙ sym (took .shown)
 
-    room-left : readAnswer c m raw xs j len ≡ cond (ltb len rows) (Refused (refusal 11 0)) (Done rows)
-    room-left = after-form h ∙ ap (λ (a : Answer). andThen a (cond (ltb len rows) (Refused (refusal 11 0)) (Done rows))) e
+    room-left : readAnswer c m raw xs j len ≡ roomAnswer
+    room-left = after-form h ∙ ap (λ (a : Answer). andThen a roomAnswer) e
 
     pub short : len < k → Refused (refusal 11 0) ≡ readAnswer c m raw xs j len
     short l = sym (room-left ∙ rw (lt-ltb len rows (omega (arith, counted))))
@@ -86,7 +88,8 @@ module _ (c m : ℕ) (raw xs : List ℕ) (j len : ℕ) where
     pub rows-are : length (shownColumn c m raw xs j) ≡ k
     pub within : k ≤ len
 
-  done-of : (f : Answer) → j < c → formAnswer c (length xs) m raw ≡ f → (k : ℕ) → readAnswer c m raw xs j len ≡ Done k → Finished k
+  done-of : (f : Answer) → j < c → formAnswer c (length xs) m raw ≡ f
+      → (k : ℕ) → readAnswer c m raw xs j len ≡ Done k → Finished k
   done-of (Refused x) h e k d = absurd (let q = form-refused x h e in let z : _≡_ {A = ℕ} 0 1 = cc in omega arith)
   done-of (Done l) h e k d = by (ltb len l) refl
     where
@@ -104,31 +107,3 @@ module _ (c m : ℕ) (raw xs : List ℕ) (j len : ℕ) where
       by : (b : Bool) → ltb j c ≡ b → Finished k
       by true t = done-of (formAnswer c (length xs) m raw) (ltb-true j c t) refl k d
       by false t = absurd (let q = column-refused (ltb-false j c t) in let z : _≡_ {A = ℕ} 0 1 = cc in omega arith)
-
--- what the viewer gets, from the answer of the read
-module _ (c m : ℕ) (raw xs : List ℕ) (j len : ℕ) where
-  pub front-viewed : (k : ℕ) → readAnswer c m raw xs j len ≡ Done k → any (touches j) (layerOf c m raw) ≡ true
-      → viewPart c m raw xs j len ≡ bufferFront k
-  unfolding viewPart
-  front-viewed k e t = rw (e, t)
-
-  pub base-viewed : (k : ℕ) → readAnswer c m raw xs j len ≡ Done k → any (touches j) (layerOf c m raw) ≡ false
-      → viewPart c m raw xs j len ≡ wholeBase
-  unfolding viewPart
-  base-viewed k e t = rw (e, t)
-
-  pub none-viewed : (x : Refusal) → readAnswer c m raw xs j len ≡ Refused x → viewPart c m raw xs j len ≡ emptyBase
-  unfolding viewPart
-  none-viewed x e = rw e
-
--- an entry shows in column j by its kind: an add, a strike, a change of column j
-abbrev pub shows : ℕ → ℕ → Bool
-shows j kind = eqb kind ADD || (eqb kind STRIKE || eqb kind j)
-
-pub shows-kind : (j : ℕ) (e : Entry) → shows j (e .kind) ≡ touches j (editOf e)
-shows-kind j e = by (eqb (e .kind) ADD) (eqb (e .kind) STRIKE) refl refl
-  where
-    by : (a b : Bool) → eqb (e .kind) ADD ≡ a → eqb (e .kind) STRIKE ≡ b → shows j (e .kind) ≡ touches j (editOf e)
-    by true b p q = rw p
-    by false true p q = rw (p, q)
-    by false false p q = rw (p, q) (eqb-sym (e .kind) j)
