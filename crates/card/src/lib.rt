@@ -1,0 +1,79 @@
+// What C calls: each export hands its arguments to the proved call and turns the answer into two numbers. include/kwadirumpe.h has the prototypes.
+use model::Answer;
+use model::Back;
+use model::Shifted;
+ghost use Prim.Native.Nat.{_≤_};
+ghost use lib.ListN.{length};
+ghost use mathlib.Core.Path.{_≡_};
+ghost use Rattle.model.specs.Answer.{backValue};
+ghost use Rattle.model.specs.Calls.{
+    fitAnswer, readAnswer, shownColumn, written, viewPart, shiftAnswer, rowAnswer, backAnswer,
+};
+ghost use Rattle.card.specs.Told.{Tells, TellsShift, TellsBack, TellsPart};
+
+// An answer: number 0 and the result, or the refusal's number and its place.
+#[repr(C)]
+pub struct Told {
+    pub number: u64,
+    pub value: usize,
+}
+
+// The same with a signed result.
+#[repr(C)]
+pub struct ToldShift {
+    pub number: u64,
+    pub value: i64,
+}
+
+fn tell(a: Answer) -> Told
+    ensures { λ r. ⌜ Tells r a ⌝ }
+{
+    match a {
+        Answer::Done(k) => Told { number: 0, value: k },
+        Answer::Refused(x) => Told { number: x.number, value: x.place },
+    }
+}
+
+#[no_mangle]
+pub extern "C" fn kw_fit(c: usize, m: usize, layer: &[u64], keys: &[u64]) -> Told
+    ensures { λ r. ⌜ Tells r (fitAnswer c m (now (layer .entry)) (now (keys .entry))) ⌝ }
+{
+    tell(form::fit(c, m, layer, keys))
+}
+
+#[no_mangle]
+pub extern "C" fn kw_read(c: usize, m: usize, layer: &[u64], base: &[u64], j: usize, out: &mut [u64]) -> Told
+    ensures { λ r. ⌜ Tells r (readAnswer c m (now (layer .entry)) (now (base .entry)) j (length (now (out .entry))))
+        × (now (out .exit) ≡ written (readAnswer c m (now (layer .entry)) (now (base .entry)) j (length (now (out .entry))))
+            (shownColumn c m (now (layer .entry)) (now (base .entry)) j) (now (out .entry))) ⌝ }
+{
+    tell(read::read(c, m, layer, base, j, out))
+}
+
+// Which part the viewer hands back: number 0, a part of the base column, 1, the front of the buffer; and its length.
+#[no_mangle]
+pub extern "C" fn kw_view(c: usize, m: usize, layer: &[u64], base: &[u64], j: usize, out: &[u64]) -> Told
+    ensures { λ r. ⌜ TellsPart r (length (now (base .entry)))
+        (viewPart c m (now (layer .entry)) (now (base .entry)) j (length (now (out .entry)))) ⌝ }
+{
+    let p = read::view_part(c, m, layer, base, j, out.len());
+    Told { number: p.number(), value: p.value() }
+}
+
+#[no_mangle]
+pub extern "C" fn kw_shift_at(c: usize, n: usize, m: usize, layer: &[u64], s: usize) -> ToldShift
+    ensures { λ r. ⌜ TellsShift r (shiftAnswer c n m (now (layer .entry)) s) ⌝ }
+{
+    let a = place::shift(c, n, m, layer, s);
+    match a {
+        Shifted::By(z) => ToldShift { number: 0, value: z },
+        Shifted::Refused(x) => ToldShift { number: x.number, value: 0 },
+    }
+}
+
+#[no_mangle]
+pub extern "C" fn kw_row(c: usize, n: usize, m: usize, layer: &[u64], s: usize) -> Told
+    ensures { λ r. ⌜ Tells r (rowAnswer c n m (now (layer .entry)) s) ⌝ }
+{
+    tell(place::row(c, n, m, layer, s))
+}
