@@ -2,12 +2,19 @@
 use model::Answer;
 use model::Back;
 use model::Shifted;
-ghost use Prim.Native.Nat.{_≤_};
+ghost use Prim.Native.Nat.{_+_, _≤_};
 ghost use lib.ListN.{length};
+ghost use lib.IntN.{pos};
 ghost use mathlib.Core.Path.{_≡_};
-ghost use Rattle.model.specs.Answer.{backValue};
 ghost use Rattle.model.specs.Calls.{
-    fitAnswer, readAnswer, shownColumn, written, viewPart, shiftAnswer, rowAnswer, backAnswer,
+  fitAnswer,
+  readAnswer,
+  shownColumn,
+  written,
+  viewPart,
+  shiftAnswer,
+  rowAnswer,
+  backAnswer,
 };
 ghost use Rattle.card.specs.Told.{Tells, TellsShift, TellsBack, TellsPart};
 
@@ -29,9 +36,31 @@ fn tell(a: Answer) -> Told
     ensures { λ r. ⌜ Tells r a ⌝ }
 {
     match a {
-        Answer::Done(k) => Told { number: 0, value: k },
-        Answer::Refused(x) => Told { number: x.number, value: x.place },
+        Answer::Done(k) => Told {
+            number: 0,
+            value: k,
+        },
+        Answer::Refused(x) => Told {
+            number: x.number,
+            value: x.place,
+        },
     }
+}
+
+// A place as a signed number.
+fn signed(k: usize) -> i64
+    requires { ⌜ k ≤ 512 ⌝ }
+    ensures { λ r. ⌜ r ≡ pos k ⌝ }
+{
+    k as i64
+}
+
+// An added entry's number, past all row numbers.
+fn past_rows(i: usize) -> usize
+    requires { ⌜ i ≤ 512 ⌝ }
+    ensures { λ r. ⌜ r ≡ 65536 + i ⌝ }
+{
+    65536 + i
 }
 
 #[no_mangle]
@@ -42,22 +71,39 @@ pub extern "C" fn kw_fit(c: usize, m: usize, layer: &[u64], keys: &[u64]) -> Tol
 }
 
 #[no_mangle]
-pub extern "C" fn kw_read(c: usize, m: usize, layer: &[u64], base: &[u64], j: usize, out: &mut [u64]) -> Told
+pub extern "C" fn kw_read(
+    c: usize,
+    m: usize,
+    layer: &[u64],
+    base: &[u64],
+    j: usize,
+    out: &mut [u64],
+) -> Told
     ensures { λ r. ⌜ Tells r (readAnswer c m (now (layer .entry)) (now (base .entry)) j (length (now (out .entry))))
         × (now (out .exit) ≡ written (readAnswer c m (now (layer .entry)) (now (base .entry)) j (length (now (out .entry))))
-            (shownColumn c m (now (layer .entry)) (now (base .entry)) j) (now (out .entry))) ⌝ }
+        (shownColumn c m (now (layer .entry)) (now (base .entry)) j) (now (out .entry))) ⌝ }
 {
     tell(read::read(c, m, layer, base, j, out))
 }
 
 // Which part the viewer hands back: number 0, a part of the base column, 1, the front of the buffer; and its length.
 #[no_mangle]
-pub extern "C" fn kw_view(c: usize, m: usize, layer: &[u64], base: &[u64], j: usize, out: &[u64]) -> Told
+pub extern "C" fn kw_view(
+    c: usize,
+    m: usize,
+    layer: &[u64],
+    base: &[u64],
+    j: usize,
+    out: &[u64],
+) -> Told
     ensures { λ r. ⌜ TellsPart r (length (now (base .entry)))
         (viewPart c m (now (layer .entry)) (now (base .entry)) j (length (now (out .entry)))) ⌝ }
 {
     let p = read::view_part(c, m, layer, base, j, out.len());
-    Told { number: p.number(), value: p.value() }
+    Told {
+        number: p.number(),
+        value: p.value(),
+    }
 }
 
 #[no_mangle]
@@ -66,8 +112,14 @@ pub extern "C" fn kw_shift_at(c: usize, n: usize, m: usize, layer: &[u64], s: us
 {
     let a = place::shift(c, n, m, layer, s);
     match a {
-        Shifted::By(z) => ToldShift { number: 0, value: z },
-        Shifted::Refused(x) => ToldShift { number: x.number, value: 0 },
+        Shifted::By(z) => ToldShift {
+            number: 0,
+            value: z,
+        },
+        Shifted::Refused(x) => ToldShift {
+            number: x.number,
+            value: signed(x.place),
+        },
     }
 }
 
@@ -76,4 +128,26 @@ pub extern "C" fn kw_row(c: usize, n: usize, m: usize, layer: &[u64], s: usize) 
     ensures { λ r. ⌜ Tells r (rowAnswer c n m (now (layer .entry)) s) ⌝ }
 {
     tell(place::row(c, n, m, layer, s))
+}
+
+// Back from row number r: value s for base row s, 65536 + i for the added entry number i.
+#[no_mangle]
+pub extern "C" fn kw_back(c: usize, n: usize, m: usize, layer: &[u64], r: usize) -> Told
+    ensures { λ o. ⌜ TellsBack o (backAnswer c n m (now (layer .entry)) r) ⌝ }
+{
+    let a = place::back(c, n, m, layer, r);
+    match a {
+        Back::Base(s) => Told {
+            number: 0,
+            value: s,
+        },
+        Back::Added(i) => Told {
+            number: 0,
+            value: past_rows(i),
+        },
+        Back::Refused(x) => Told {
+            number: x.number,
+            value: x.place,
+        },
+    }
 }
