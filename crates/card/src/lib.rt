@@ -6,7 +6,15 @@ ghost use Prim.Native.Nat.{_+_, _≤_};
 ghost use lib.ListN.{length};
 ghost use lib.IntN.{pos};
 ghost use mathlib.Core.Path.{_≡_};
+ghost use Rattle.model.specs.Raw.{flat};
 ghost use Rattle.model.specs.Calls.{
+  edited,
+  strikeAnswer,
+  struckLayer,
+  changeAnswer,
+  changedLayer,
+  moveAnswer,
+  movedLayer,
   fitAnswer,
   readAnswer,
   shownColumn,
@@ -150,4 +158,46 @@ pub extern "C" fn kw_back(c: usize, n: usize, m: usize, layer: &[u64], r: usize)
             value: x.place,
         },
     }
+}
+
+#[no_mangle]
+pub extern "C" fn kw_strike(c: usize, m: usize, layer: &mut [u64], keys: &[u64], r: usize) -> Told
+    ensures { λ o. ⌜ Tells o (strikeAnswer c m (now (layer .entry)) (now (keys .entry)) r)
+        × (now (layer .exit) ≡ edited c m (strikeAnswer c m (now (layer .entry)) (now (keys .entry)) r)
+        (struckLayer c m (now (layer .entry)) (now (keys .entry)) r) (now (layer .entry))) ⌝ }
+{
+    tell(edit::strike(c, m, layer, keys, r))
+}
+
+#[no_mangle]
+pub extern "C" fn kw_change(
+    c: usize,
+    m: usize,
+    layer: &mut [u64],
+    keys: &[u64],
+    r: usize,
+    j: usize,
+    v: u64,
+) -> Told
+    ensures { λ o. ⌜ Tells o (changeAnswer c m (now (layer .entry)) (now (keys .entry)) r j v)
+        × (now (layer .exit) ≡ edited c m (changeAnswer c m (now (layer .entry)) (now (keys .entry)) r j v)
+        (changedLayer c m (now (layer .entry)) (now (keys .entry)) r j v) (now (layer .entry))) ⌝ }
+{
+    tell(edit::change(c, m, layer, keys, r, j, v))
+}
+
+#[no_mangle]
+pub extern "C" fn kw_move(
+    c: usize,
+    keys: &[u64],
+    mx: usize,
+    x: &mut [u64],
+    my: usize,
+    y: &[u64],
+) -> Told
+    ensures { λ r. ⌜ Tells r (moveAnswer c (now (keys .entry)) mx (now (x .entry)) my (now (y .entry)))
+        × (now (x .exit) ≡ written (moveAnswer c (now (keys .entry)) mx (now (x .entry)) my (now (y .entry)))
+        (flat c (movedLayer c mx (now (x .entry)) my (now (y .entry)))) (now (x .entry))) ⌝ }
+{
+    tell(pass::move_past(c, keys, mx, x, my, y))
 }

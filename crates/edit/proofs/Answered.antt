@@ -46,13 +46,15 @@ module _ (c m : ℕ) (raw K : List ℕ) where
   unfolding readyAnswer fitAnswer formAnswer fits fitPlace
   ready-of rows h =
       let p = passed (argsOk c (length K) m (length raw)) (breaksForm c (length K) m raw) (ascending K) (ltb (fitPlace K L) (length L))
-          (refusal 2 (0 + formPlace c (length K) (entriesOf c m raw))) (refusal 4 (0 + fitPlace K L)) h in
-      (record {
-        form = rw (p .0, p .1);
-        keys = p .2;
-        fit = eq-eqb (fitPlace K L) (length L)
-            (omega (arith, ltb-false (fitPlace K L) (length L) (p .3), broken-le (suits K L) rises [] L));
-      }, sym (p .4))
+      (refusal 2 (0 + formPlace c (length K) (entriesOf c m raw))) (refusal 4 (0 + fitPlace K L)) h in (
+        record {
+          form = rw (p .0, p .1);
+          keys = p .2;
+          fit = eq-eqb (fitPlace K L) (length L)
+              (omega (arith, ltb-false (fitPlace K L) (length L) (p .3), broken-le (suits K L) rises [] L));
+        },
+        sym (p .4),
+      )
 
   -- the first four rows of an edit's table
   after-ready : (tests : List Test) (z : Answer)

@@ -108,8 +108,8 @@ module _ (s j : ℕ) (f : CellEdit) where
         splice before (at s (change j f)) (changesCell s j) i 1 L first
         (λ d m. ap (changesCell s j) (eq-of-singleton (rw e at m)) ∙ h)
         (λ d m.
-            let n = rw g at m in
-            (later d (rw e (next n)), behind x R e d n))
+        let n = rw g at m in
+        (later d (rw e (next n)), behind x R e d n))
 
     -- there is none
     pub change-new : ((x : Edit) (R : Layer) → drop i L ≡ x ∷ R → changesCell s j x ≡ false)
@@ -118,8 +118,8 @@ module _ (s j : ℕ) (f : CellEdit) where
     change-new h =
         splice before (at s (change j f)) (changesCell s j) i 0 L first (λ d m. absurd (not-nil m))
         (λ d m.
-            let n = rw (add-zero i) at m in
-            (later d n, go (drop i L) refl d n))
+        let n = rw (add-zero i) at m in
+        (later d n, go (drop i L) refl d n))
       where
         go : (Y : Layer) → drop i L ≡ Y → (d : Edit) → Mem d Y → changesCell s j d ≡ false
         go [] e d m = absurd (not-nil m)

@@ -38,9 +38,9 @@ pub entered : (c m i k : ℕ) (raw new F : List ℕ) (r : Answer) (L M : Layer) 
 entered c m i k raw new F r L M e W h f l g w = record {
   answer = w .0 ∙ ap (countAnswer c (length raw)) count;
   slice =
-    w .1
-    ∙ (ap (λ (t : List ℕ). ifDone r (replaced c m i k t raw) raw) (f ∙ sym (flat-one c e))
-    ∙ (if-edited c m i k raw L W h (e ∷ []) wide r ∙ ap (λ (t : Layer). edited c m r t raw) (sym g)));
+      w .1
+      ∙ (ap (λ (t : List ℕ). ifDone r (replaced c m i k t raw) raw) (f ∙ sym (flat-one c e))
+      ∙ (if-edited c m i k raw L W h (e ∷ []) wide r ∙ ap (λ (t : Layer). edited c m r t raw) (sym g)));
 }
   where
     wide : Wide c (e ∷ [])

@@ -52,8 +52,8 @@ known c m raw K R = record {
   acc = A;
   rising = asc;
   good =
-    good-of c (singles K) (layerOf c m raw) asc (rw (singles-length K) (A .ordered))
-    (rw (keys-singles K) (R .fit));
+      good-of c (singles K) (layerOf c m raw) asc (rw (singles-length K) (A .ordered))
+      (rw (keys-singles K) (R .fit));
   written = record {
     numbers = A .numbers;
     size = A .size;

@@ -28,7 +28,7 @@ use Rattle.edit.proofs.Splice.{first-le}
 kind-before : (q k v : ℕ) (vs : List ℕ) (a b x y : Bool)
     → ((a && (not x || ltb (getD vs 0 0) v)) || (not a && (not b && (not x && (not y && ltb q k)))))
     ≡ deedBefore (cond a (add vs) (cond b (strike (getD vs 0 0)) (change q (to (getD vs 0 0)))))
-        (cond x (add (v ∷ [])) (cond y (strike v) (change k (to v))))
+    (cond x (add (v ∷ [])) (cond y (strike v) (change k (to v))))
 unfolding key
 kind-before q k v vs true b true y = or-no (ltb (getD vs 0 0) v)
   where

@@ -87,8 +87,8 @@ module _ (c m : ℕ) (raw K : List ℕ) (r : ℕ) (N : Known c m raw K) (h : r <
     strike-of-added new w = rw is-added (record {
       answer = fewer (m - 1) (omega arith) ∙ ap (countAnswer c (length raw)) size;
       slice =
-        w ∙ (replaced-edited c m raw L (N .written) i 1 (omega (arith, added-below)) [] (λ d k. absurd (not-nil k)) (m - 1)
-        ∙ ap (λ (M : Layer). edited c m (Done (m - 1)) M raw) (sym (without-at i L)));
+          w ∙ (replaced-edited c m raw L (N .written) i 1 (omega (arith, added-below)) [] (λ d k. absurd (not-nil k)) (m - 1)
+          ∙ ap (λ (M : Layer). edited c m (Done (m - 1)) M raw) (sym (without-at i L)));
     })
       where
         size : m - 1 ≡ length (without i L)

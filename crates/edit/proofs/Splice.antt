@@ -107,11 +107,11 @@ module _ {A : Type 0} (R : A → A → Bool) (e : A) where
         → insert R e (filter (λ d. not (g d)) L) ≡ take i L ++ (e ∷ drop (i + k) L)
     splice i k L f b r =
         let whole : L ≡ take i L ++ (take k (drop i L) ++ drop (i + k) L) =
-            sym (rw (← drop-drop k i L, take-append-drop k (drop i L)) (take-append-drop i L)) in
+        sym (rw (← drop-drop k i L, take-append-drop k (drop i L)) (take-append-drop i L)) in
         let left : filter (λ d. not (g d)) L ≡ take i L ++ drop (i + k) L =
-            ap (filter (λ d. not (g d))) whole
-            ∙ (kept (take i L) (take k (drop i L) ++ drop (i + k) L) (λ d m. f d m .1)
-            ∙ ap (λ (t : List A). take i L ++ t) (gone (take k (drop i L)) (drop (i + k) L) b ∙ kept-all (drop (i + k) L) (λ d m. r d m .1))) in
+        ap (filter (λ d. not (g d))) whole
+        ∙ (kept (take i L) (take k (drop i L) ++ drop (i + k) L) (λ d m. f d m .1)
+        ∙ ap (λ (t : List A). take i L ++ t) (gone (take k (drop i L)) (drop (i + k) L) b ∙ kept-all (drop (i + k) L) (λ d m. r d m .1))) in
         ap (insert R e) left
         ∙ (insert-past (take i L) (drop (i + k) L) (λ d m. f d m .0)
         ∙ ap (λ (t : List A). take i L ++ t) (insert-first (drop (i + k) L) (λ d m. r d m .0)))

@@ -1,8 +1,8 @@
 // An edit of a base row: where its entry lands, and which entries it takes the place of.
+use crate::landing;
 use model::Answer;
 use model::Entry;
 use model::Refusal;
-use crate::landing;
 ghost use mathlib.Core.Path.{_≡_};
 ghost use mathlib.Core.Bool.{false};
 ghost use Prim.Native.Nat.{_+_, _-_, _≤_, _<_};
@@ -57,7 +57,15 @@ pub fn strike_base(c: usize, m: usize, layer: &mut [u64], keys: &[u64], s: usize
 }
 
 // Changes column j of base row s to v: the change of that column is replaced, or entered in column order.
-pub fn change_base(c: usize, m: usize, layer: &mut [u64], keys: &[u64], s: usize, j: usize, v: u64) -> Answer
+pub fn change_base(
+    c: usize,
+    m: usize,
+    layer: &mut [u64],
+    keys: &[u64],
+    s: usize,
+    j: usize,
+    v: u64,
+) -> Answer
     requires { ⌜ Ready c m (now layer) (now keys) × (s < length (now keys)) × (1 ≤ j) × (j < c) ⌝ }
     ensures { λ r. ⌜ Entered c m (changeBase s j (to v) (layerOf c m (now (layer .entry)))) (now (layer .entry)) r (now (layer .exit)) ⌝ }
 {

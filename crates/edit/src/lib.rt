@@ -1,6 +1,6 @@
 // The three edits of a layer: add a row, strike a row, change a column of a row.
-mod landing;
 mod base;
+mod landing;
 
 use model::Answer;
 use model::Back;
@@ -73,7 +73,15 @@ pub fn strike(c: usize, m: usize, layer: &mut [u64], keys: &[u64], r: usize) -> 
 }
 
 // Changes column j, which is not the key, of row number r, which is shown, to v.
-fn change_row(c: usize, m: usize, layer: &mut [u64], keys: &[u64], r: usize, j: usize, v: u64) -> Answer
+fn change_row(
+    c: usize,
+    m: usize,
+    layer: &mut [u64],
+    keys: &[u64],
+    r: usize,
+    j: usize,
+    v: u64,
+) -> Answer
     requires { ⌜ Ready c m (now layer) (now keys) × (r < rowsAfter (length (now keys)) (layerOf c m (now layer))) × (1 ≤ j) × (j < c) ⌝ }
     ensures { λ x. ⌜ Entered c m (changeRowNo (now (keys .entry)) r j (to v) (layerOf c m (now (layer .entry)))) (now (layer .entry)) x (now (layer .exit)) ⌝ }
 {
@@ -88,7 +96,15 @@ fn change_row(c: usize, m: usize, layer: &mut [u64], keys: &[u64], r: usize, j: 
 }
 
 // Change column j of row number r to v: an added row's value is replaced; a base row's change of j is replaced or entered in column order.
-pub fn change(c: usize, m: usize, layer: &mut [u64], keys: &[u64], r: usize, j: usize, v: u64) -> Answer
+pub fn change(
+    c: usize,
+    m: usize,
+    layer: &mut [u64],
+    keys: &[u64],
+    r: usize,
+    j: usize,
+    v: u64,
+) -> Answer
     ensures { λ x. ⌜ (x ≡ changeAnswer c m (now (layer .entry)) (now (keys .entry)) r j v)
         × (now (layer .exit) ≡ edited c m x (changedLayer c m (now (layer .entry)) (now (keys .entry)) r j v) (now (layer .entry))) ⌝ }
 {

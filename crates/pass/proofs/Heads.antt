@@ -81,7 +81,7 @@ module _ (a b x y : Bool) (u v q k : ℕ) where
   unfolding key
   level-kinds =
       elim a [
-        true ↦ elim x [ true ↦ or-false (ltb u v) | false ↦ elim y [ true ↦ refl | false ↦ refl ] ]
+        | true ↦ elim x [ true ↦ or-false (ltb u v) | false ↦ elim y [ true ↦ refl | false ↦ refl ] ]
         | false ↦ elim b [ true ↦ refl | false ↦ elim x [ true ↦ refl | false ↦ elim y [ true ↦ refl | false ↦ refl ] ] ]
       ]
 
@@ -91,11 +91,11 @@ module _ (a b x y : Bool) (u v q k : ℕ) where
   unfolding key
   clash-kinds p s =
       elim a [
-        true ↦ elim x [ true ↦ number (eqb u v) sameKey | false ↦ elim y [ true ↦ refl | false ↦ refl ] ]
+        | true ↦ elim x [ true ↦ number (eqb u v) sameKey | false ↦ elim y [ true ↦ refl | false ↦ refl ] ]
         | false ↦ elim x [
-          true ↦ elim b [ true ↦ refl | false ↦ refl ]
+          | true ↦ elim b [ true ↦ refl | false ↦ refl ]
           | false ↦ elim b [
-            true ↦ elim y [ true ↦ number (eqb p s) struckRow | false ↦ number (eqb p s) struckRow ]
+            | true ↦ elim y [ true ↦ number (eqb p s) struckRow | false ↦ number (eqb p s) struckRow ]
             | false ↦ elim y [ true ↦ number (eqb p s) struckRow | false ↦ cell (eqb p s) (eqb q k) ]
           ]
         ]

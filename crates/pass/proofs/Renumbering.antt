@@ -46,8 +46,18 @@ entry-set c from p zs xs r l e =
     let two : from + 2 ≡ suc (suc from) = omega arith in
     let d : drop (suc from) zs ≡ drop (suc from) xs =
     ap (λ (n : ℕ). drop n zs) (sym one) ∙ (sym (drop-drop 1 from zs) ∙ (ap (drop 1) e ∙ (drop-drop 1 from xs ∙ ap (λ (n : ℕ). drop n xs) one))) in
-    rw (a, take-add from (suc (suc c)) (set zs from p), take-set-le from zs from p (omega arith), drop-cons (set zs from p) from 0 (omega (arith, length-set zs from p)),
-    getD-set-same zs from p 0 (omega arith), drop-set-lt (suc from) zs from p (omega arith), d, drop-cons xs (suc from) 0 (omega arith), one, two)
+    rw (
+      a,
+      take-add from (suc (suc c)) (set zs from p),
+      take-set-le from zs from p (omega arith),
+      drop-cons (set zs from p) from 0 (omega (arith, length-set zs from p)),
+      getD-set-same zs from p 0 (omega arith),
+      drop-set-lt (suc from) zs from p (omega arith),
+      d,
+      drop-cons xs (suc from) 0 (omega arith),
+      one,
+      two,
+    )
 
 module _ (c mx : ℕ) (xs : List ℕ) (my : ℕ) (ys : List ℕ) where
   -- the numbers of the moved edits from number i on, and what stands past X

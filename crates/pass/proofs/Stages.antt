@@ -193,11 +193,21 @@ module _ (c n rows mx : ℕ) (x : List ℕ) (my : ℕ) (y : List ℕ) (W : Weigh
   pub rows-refused : mx ≤ p → 4096 + n < rows → Refused (refusal 10 0) ≡ passing
   unfolding passTests
   rows-refused h g =
-      rw (conflict-place (layerOf c mx x) (layerOf c my y), layer-length c mx x, ← ep, le-ltb p mx h,
-      lt-ltb 4096 (rowsAfter (rowsAfter n (layerOf c my y)) (layerOf c mx x)) (omega (arith, W .strikes, W .total)))
+      rw (
+        conflict-place (layerOf c mx x) (layerOf c my y),
+        layer-length c mx x,
+        ← ep,
+        le-ltb p mx h,
+        lt-ltb 4096 (rowsAfter (rowsAfter n (layerOf c my y)) (layerOf c mx x)) (omega (arith, W .strikes, W .total)),
+      )
 
   pub passes : mx ≤ p → rows ≤ 4096 + n → Done mx ≡ passing
   unfolding passTests
   passes h g =
-      rw (conflict-place (layerOf c mx x) (layerOf c my y), layer-length c mx x, ← ep, le-ltb p mx h,
-      le-ltb 4096 (rowsAfter (rowsAfter n (layerOf c my y)) (layerOf c mx x)) (omega (arith, W .strikes, W .total)))
+      rw (
+        conflict-place (layerOf c mx x) (layerOf c my y),
+        layer-length c mx x,
+        ← ep,
+        le-ltb p mx h,
+        le-ltb 4096 (rowsAfter (rowsAfter n (layerOf c my y)) (layerOf c mx x)) (omega (arith, W .strikes, W .total)),
+      )

@@ -32,7 +32,8 @@ pub fn stands_before(d: Head, e: Head) -> bool
     ensures { λ r. ⌜ r ≡ before (seen d) (seen e) ⌝ }
 {
     let adds = (e.kind != Entry::ADD) | (d.first < e.first);
-    let changes = (d.kind != Entry::STRIKE) & ((e.kind != Entry::ADD) & ((e.kind != Entry::STRIKE) & (d.kind < e.kind)));
+    let changes = (d.kind != Entry::STRIKE)
+        & ((e.kind != Entry::ADD) & ((e.kind != Entry::STRIKE) & (d.kind < e.kind)));
     let level = ((d.kind == Entry::ADD) & adds) | ((d.kind != Entry::ADD) & changes);
     (d.pos < e.pos) | ((d.pos == e.pos) & level)
 }

@@ -19,7 +19,7 @@ ghost use Rattle.pass.specs.Stages.{formTests, fitTests, passTests, Weig
 // Refusals 1 and 2. The result is the rows after X and the rows after Y, together.
 fn both_formed(c: usize, n: usize, mx: usize, x: &[u64], my: usize, y: &[u64]) -> Answer
     ensures { λ r. ⌜ r ≡ firstMet Refused (formTests c n mx (now (x .entry)) my (now (y .entry)))
-      (Done (rowsAfter n (layerOf c mx (now (x .entry))) + rowsAfter n (layerOf c my (now (y .entry))))) ⌝ }
+        (Done (rowsAfter n (layerOf c mx (now (x .entry))) + rowsAfter n (layerOf c my (now (y .entry))))) ⌝ }
 {
     if !(form::args_ok(c, n, mx, x.len()) & form::args_ok(c, n, my, y.len())) {
         return Answer::Refused(Refusal {
@@ -101,7 +101,7 @@ fn tested(c: usize, keys: &[u64], mx: usize, x: &[u64], my: usize, y: &[u64]) ->
 // Moves X past Y: only X's positions change.
 pub fn move_past(c: usize, keys: &[u64], mx: usize, x: &mut [u64], my: usize, y: &[u64]) -> Answer
     ensures { λ r. ⌜ (r ≡ moveAnswer c (now (keys .entry)) mx (now (x .entry)) my (now (y .entry)))
-      × (now (x .exit) ≡ written r (flat c (movedLayer c mx (now (x .entry)) my (now (y .entry)))) (now (x .entry))) ⌝ }
+        × (now (x .exit) ≡ written r (flat c (movedLayer c mx (now (x .entry)) my (now (y .entry)))) (now (x .entry))) ⌝ }
 {
     match tested(c, keys, mx, x, my, y) {
         Answer::Refused(r) => Answer::Refused(r),

@@ -39,7 +39,7 @@ impl Cursor {
     fn past(self, at: usize, kind: u64) -> Self
         requires { ⌜ (self .i < 512) × (self .adds ≤ 512) × (self .strikes ≤ 512) ⌝ }
         ensures { λ r. ⌜ (r .i ≡ self .i + 1) × (r .at ≡ at) × (r .adds ≡ self .adds + one (eqb kind ADD))
-          × (r .strikes ≡ self .strikes + one (eqb kind STRIKE)) ⌝ }
+            × (r .strikes ≡ self .strikes + one (eqb kind STRIKE)) ⌝ }
     {
         let i = self.i + 1;
         let adds = self.adds;
@@ -123,7 +123,7 @@ pub fn first_clash(c: usize, mx: usize, x: &[u64], my: usize, y: &[u64]) -> usiz
 pub fn renumber(c: usize, mx: usize, x: &mut [u64], my: usize, y: &[u64])
     requires { ⌜ Movable c mx (now x) my (now y) ⌝ }
     ensures { λ _. ⌜ now (x .exit)
-      ≡ flat c (move (layerOf c mx (now (x .entry))) (layerOf c my (now (y .entry)))) ++ drop (mx * (c + 2)) (now (x .entry)) ⌝ }
+        ≡ flat c (move (layerOf c mx (now (x .entry))) (layerOf c my (now (y .entry)))) ++ drop (mx * (c + 2)) (now (x .entry)) ⌝ }
 {
     let mut i: usize = 0;
     let mut at: usize = 0;

@@ -52,7 +52,6 @@ set-value-requires c κs =
     let a = b .args in
     (knows b .acc .held, added-below (a .c) (a .m) (a .layer .now) (a .keys .now) (a .r) (knows b) (b .pre .1) _ (of-added d), b .pre .3)
 
-
 enum-known-x : tie.Need-enum-known-x
 enum-known-x c = search needs
 

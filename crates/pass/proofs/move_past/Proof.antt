@@ -54,8 +54,8 @@ returns-2 c =
     let a = t .before .before .before .before .before .before .before .before .args in (
       sym (answered t),
       c .before .before .renumber .ensures
-      ∙ ap (λ (n : ℕ). flat (a .c) (movedLayer (a .c) (a .mx) (a .x .now) (a .my) (a .y .now)) ++ drop n (a .x .now))
-      (sym (move-length (a .c) (a .keys .now) (a .mx) (a .x .now) (a .my) (a .y .now) (accepted t .sides))),
+          ∙ ap (λ (n : ℕ). flat (a .c) (movedLayer (a .c) (a .mx) (a .x .now) (a .my) (a .y .now)) ++ drop n (a .x .now))
+          (sym (move-length (a .c) (a .keys .now) (a .mx) (a .x .now) (a .my) (a .y .now) (accepted t .sides))),
     )
 
 pub move-past-spec : {M : Type 1} → statement M

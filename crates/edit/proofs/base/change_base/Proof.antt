@@ -26,10 +26,11 @@ number-is-requires c κs = knows (c .before .before .before .before .before .bef
 put-entry-requires : tie.Need-put-entry-requires
 put-entry-requires c κs =
     let b = c .before .before .before .before .before .before .before .before .before in
-    let a = b .args in
-    (knows b .acc .held,
+    let a = b .args in (
+      knows b .acc .held,
       on-old (a .c) (a .m) (a .s) (a .layer .now) (a .keys .now) (knows b) (a .j) (a .v) _ (b .pre .2) (b .pre .3)
-      (c .before .before .before .before .before .landing .ensures) (sym (c .before .before .number-is .ensures) ∙ c .before .if1 .taken))
+          (c .before .before .before .before .before .landing .ensures) (sym (c .before .before .number-is .ensures) ∙ c .before .if1 .taken),
+    )
 
 same-length : tie.Need-same-length
 same-length c = search needs
@@ -46,10 +47,11 @@ returns c =
 put-entry-requires-2 : tie.Need-put-entry-requires-2
 put-entry-requires-2 c κs =
     let b = c .before .before .before .before .before .before .before .before .before in
-    let a = b .args in
-    (knows b .acc .held,
+    let a = b .args in (
+      knows b .acc .held,
       off-old (a .c) (a .m) (a .s) (a .layer .now) (a .keys .now) (knows b) (a .j) (a .v) _ (b .pre .2) (b .pre .3)
-      (c .before .before .before .before .before .landing .ensures))
+          (c .before .before .before .before .before .landing .ensures),
+    )
 
 same-length-2 : tie.Need-same-length-2
 same-length-2 c = search needs

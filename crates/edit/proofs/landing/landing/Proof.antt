@@ -18,7 +18,7 @@ use Rattle.edit.proofs.landing.landing.Tie as tie
 
 abbrev Inv-loop : tie.InvT-loop
 Inv-loop c m layer s k v i₀ at₀ i at = (i ≤ m) × (at + (m - i) * (c + 2) ≤ length layer)
-  × (landing (aim s k v) (layerOf c m layer) ≡ i + landing (aim s k v) (map editOf (entriesAt c (m - i) at layer)))
+    × (landing (aim s k v) (layerOf c m layer) ≡ i + landing (aim s k v) (map editOf (entriesAt c (m - i) at layer)))
 
 abbrev μ-loop : tie.MeasureT-loop
 μ-loop c m layer s k v i₀ at₀ i at = m - i
@@ -81,11 +81,13 @@ loop-again : tie.Need-loop-again Inv-loop μ-loop
 loop-again c =
     let d = c .before .before .before .before .before in
     let l = d .before in
-    let a = l .before .before .args in
-    (omega arith, next (a .c) (a .m) (l .loop .i) (l .loop .at) (length (a .layer .now)) (d .loop-test .taken) (l .loop .inv .1),
+    let a = l .before .before .args in (
+      omega arith,
+      next (a .c) (a .m) (l .loop .i) (l .loop .at) (length (a .layer .now)) (d .loop-test .taken) (l .loop .inv .1),
       l .loop .inv .2
-      ∙ landing-step (a .c) (a .m) (l .loop .i) (l .loop .at) (a .layer .now) (aim (a .s) (a .k) (a .v)) (d .loop-test .taken)
-      (says (c .before) ∙ not-false _ (c .if1 .left)))
+          ∙ landing-step (a .c) (a .m) (l .loop .i) (l .loop .at) (a .layer .now) (aim (a .s) (a .k) (a .v)) (d .loop-test .taken)
+          (says (c .before) ∙ not-false _ (c .if1 .left)),
+    )
 
 returns-2 : tie.Need-returns-2 Inv-loop μ-loop
 returns-2 c =
