@@ -13,17 +13,17 @@ use Rattle.order.proofs.Pairs.{broken-le}
 use Rattle.model.specs.declared.Refusal.{Refusal}
 use Rattle.model.specs.declared.Answer.{Answer}
 use Rattle.model.specs.declared.Answer.the-variants.{Done, Refused}
-use Rattle.model.specs.Cell.{to}
+use Rattle.model.specs.Row.{Row, key}
 use Rattle.model.specs.Layer.{Layer, rowsAfter}
 use Rattle.model.specs.Raw.{entriesOf, layerOf}
 use Rattle.model.specs.Form.{argsOk, formPlace}
 use Rattle.model.specs.Fit.{suits, rises, fitPlace, fits}
-use Rattle.model.specs.Refusals.{Test, refuse, refusal, firstMet, badArgs, badForm, badKeys, badFit, badRow, noRoom, breaksForm}
-use Rattle.model.specs.Edits.{strikeRow, changeRowNo}
-use Rattle.model.specs.Calls.{formAnswer, fitAnswer, strikeAnswer, struckLayer, changeAnswer, changedLayer}
+use Rattle.model.specs.Refusals.{Test, refuse, refusal, firstMet, badArgs, badForm, badKeys, badFit, badRow, noRoom, tooManyRows, shownKey, breaksForm}
+use Rattle.model.specs.Read.{keysAfter}
+use Rattle.model.specs.Calls.{formAnswer, fitAnswer, addAnswer, addedLayer, strikeAnswer, struckLayer, changeAnswer, changedLayer}
 use Rattle.form.proofs.Answers.{onward, after-fit}
 use Rattle.edit.specs.Ready.{Ready, withRows, readyAnswer}
-use Rattle.edit.specs.Outcome.{countAnswer}
+use Rattle.edit.specs.Outcome.{countAnswer, addRest}
 
 -- none of the four refusals is met
 passed : (a b d e : Bool) (x y : Refusal) {k rows : ℕ}
@@ -66,6 +66,29 @@ module _ (c m : ℕ) (raw K : List ℕ) where
       by : (a : Answer) → onward Refused a (firstMet Refused tests z) ≡ onward Refused (withRows shown a) (firstMet Refused tests z)
       by (Done k) = refl
       by (Refused x) = refl
+
+  -- add
+  module _ (row : Row) where
+    pub add-not-wide : (length row ≡ c → ⊥) → Refused (refusal 1 0) ≡ addAnswer c m raw K row
+    unfolding addAnswer
+    add-not-wide h = rw (ne-eqb (length row) c h, and-false)
+
+    module _ (wide : length row ≡ c) where
+      abbrev addedTo : Layer
+      addedTo = addedLayer c m raw K row
+
+      add-rest : addAnswer c m raw K row ≡ onward Refused (readyAnswer c m raw K) (addRest c m raw K row)
+      unfolding addAnswer
+      add-rest =
+          rw (eq-eqb (length row) c wide, and-true)
+          (after-ready (refuse 7 0 (shownKey (key row) (keysAfter K L)) ∷ noRoom c (length raw) addedTo ∷ tooManyRows (rowsAfter (length K) addedTo) ∷ [])
+          (Done (length addedTo)))
+
+      pub add-refused : (x : Refusal) → readyAnswer c m raw K ≡ Refused x → Refused x ≡ addAnswer c m raw K row
+      add-refused x h = sym (add-rest ∙ rw h)
+
+      pub add-on : (rows : ℕ) → readyAnswer c m raw K ≡ Done rows → addRest c m raw K row ≡ addAnswer c m raw K row
+      add-on rows h = sym (add-rest ∙ rw h)
 
   -- strike
   module _ (r : ℕ) where

@@ -32,7 +32,7 @@ use Rattle.model.specs.Edits.{deedBefore, before, changeBase}
 use Rattle.model.proofs.Edits.{before-cases, before-trans}
 use Rattle.edit.specs.Landing.{aim, landing}
 use Rattle.edit.specs.Ready.{entryIs}
-use Rattle.edit.proofs.Splice.{drop-mem, front, rest, splice}
+use Rattle.edit.proofs.Splice.{pairs-drop, front, rest, splice}
 
 -- a change stands where its position and column put it, whatever its value
 same-change : (d : Edit) (s j : ℕ) (f g : CellEdit) → before d (at s (change j f)) ≡ before d (at s (change j g))
@@ -57,11 +57,6 @@ cell-is E s j h = by (eqb (E .kind) ADD) refl (eqb (E .kind) STRIKE) refl
     by true e b f = other ADD (omega arith) (eqb-true (E .kind) ADD e)
     by false e true f = other STRIKE (omega arith) (eqb-true (E .kind) STRIKE f)
     by false e false f = λ i. eqb-sym s (E .pos) i && eqb-sym j (E .kind) i
-
-pairs-drop : (i : ℕ) (L : Layer) → AllPairs before L → AllPairs before (drop i L)
-pairs-drop zero L p = p
-pairs-drop (suc i) [] p = p
-pairs-drop (suc i) (x ∷ L) p = pairs-drop i L (p .1)
 
 module _ (s j : ℕ) (f : CellEdit) where
   -- what stands before the change of a cell stands before any other of it
@@ -98,7 +93,7 @@ module _ (s j : ℕ) (f : CellEdit) where
     behind : (x : Edit) (R : Layer) → drop i L ≡ x ∷ R → (d : Edit) → Mem d R → changesCell s j d ≡ false
     behind x R e d m =
         not-passed (changesCell s j d)
-        (λ h. true≢false (sym (sym (alike d x h) ∙ (rw e at (pairs-drop i L sorted)) .0 d m) ∙ later x (rw e (here refl))))
+        (λ h. true≢false (sym (sym (alike d x h) ∙ (rw e at (pairs-drop before i L sorted)) .0 d m) ∙ later x (rw e (here refl))))
 
     -- there is an old change
     pub change-replaced : (x : Edit) (R : Layer) → drop i L ≡ x ∷ R → drop (i + 1) L ≡ R → changesCell s j x ≡ true

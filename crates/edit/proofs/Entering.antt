@@ -29,22 +29,24 @@ if-edited : (c m i k : ℕ) (raw : List ℕ) (L : Layer) → Written c m raw L �
 if-edited c m i k raw L W h N v (Done x) = replaced-edited c m raw L W i k h N v x
 if-edited c m i k raw L W h N v (Refused x) = refl
 
--- the k edits from number i on replaced by e: what `put_entry` leaves is what the new layer M asks
-pub entered : (c m i k : ℕ) (raw new F : List ℕ) (r : Answer) (L M : Layer) (e : Edit) → Written c m raw L → i + k ≤ m
-    → F ≡ numbersOf c e → length (numbersOf c e) ≡ c + 2
-    → M ≡ take i L ++ (e ∷ drop (i + k) L)
-    → (r ≡ countAnswer c (length raw) (m + 1 - k)) × (new ≡ ifDone r (replaced c m i k F raw) raw)
-    → Entered c m M raw r new
-entered c m i k raw new F r L M e W h f l g w = record {
-  answer = w .0 ∙ ap (countAnswer c (length raw)) count;
-  slice =
-      w .1
-      ∙ (ap (λ (t : List ℕ). ifDone r (replaced c m i k t raw) raw) (f ∙ sym (flat-one c e))
-      ∙ (if-edited c m i k raw L W h (e ∷ []) wide r ∙ ap (λ (t : Layer). edited c m r t raw) (sym g)));
-}
-  where
-    wide : Wide c (e ∷ [])
-    wide d m = ap (λ (x : Edit). length (numbersOf c x)) (eq-of-singleton m) ∙ l
+-- the k edits from number i on replaced by e
+module _ (c m i k : ℕ) (raw F : List ℕ) (L M : Layer) (e : Edit) (W : Written c m raw L) (h : i + k ≤ m)
+    (f : F ≡ numbersOf c e) (l : length (numbersOf c e) ≡ c + 2) (g : M ≡ take i L ++ (e ∷ drop (i + k) L)) where
+  wide : Wide c (e ∷ [])
+  wide d n = ap (λ (x : Edit). length (numbersOf c x)) (eq-of-singleton n) ∙ l
 
-    count : m + 1 - k ≡ length M
-    count = omega (arith, ap length g, spliced-length c m raw L W i k h (e ∷ []) wide)
+  pub new-count : m + 1 - k ≡ length M
+  new-count = omega (arith, ap length g, spliced-length c m raw L W i k h (e ∷ []) wide)
+
+  pub new-slice : (r : Answer) → ifDone r (replaced c m i k F raw) raw ≡ edited c m r M raw
+  new-slice r =
+      ap (λ (t : List ℕ). ifDone r (replaced c m i k t raw) raw) (f ∙ sym (flat-one c e))
+      ∙ (if-edited c m i k raw L W h (e ∷ []) wide r ∙ ap (λ (t : Layer). edited c m r t raw) (sym g))
+
+  -- what `put_entry` leaves is what the new layer M asks
+  pub entered : (new : List ℕ) (r : Answer) → (r ≡ countAnswer c (length raw) (m + 1 - k)) × (new ≡ ifDone r (replaced c m i k F raw) raw)
+      → Entered c m M raw r new
+  entered new r w = record {
+    answer = w .0 ∙ ap (countAnswer c (length raw)) new-count;
+    slice = w .1 ∙ new-slice r;
+  }

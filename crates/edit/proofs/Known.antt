@@ -7,10 +7,14 @@ use native.Mathlib.Omega.{arith}
 use mathlib.Core.Path.{_≡_, refl, sym, ap, _∙_, subst}
 use mathlib.Core.Bool.{Bool, true, false, _&&_}
 use mathlib.Core.List.{List, [], _∷_, map, List·Memᴰ as Mem}
-use lib.ListN.{length, getD, drop, length-map, List·getD-map}
+use lib.ListN.{length, getD, drop, length-drop, length-map, List·getD-map}
+use lib.Dec.{ltb}
+use borrow.Author.Tests.{ltb-true, ltb-false}
 use lib.Seq.{drop-cons}
 use Rattle.order.specs.Lists.{ascending}
+use Rattle.order.proofs.Tests.{and-l, and-r}
 use Rattle.order.proofs.Ascending.{AscFrom, asc-of, At, getD-at}
+use Rattle.model.specs.declared.Entry.{Entry}
 use Rattle.model.specs.Row.{Row, Table, key, keys}
 use Rattle.model.specs.Layer.{Edit, Layer, rowsAfter}
 use Rattle.model.specs.Raw.{Held, none, entryAt, entriesOf, editOf, layerOf}
@@ -24,7 +28,7 @@ use Rattle.model.proofs.Count.{read-length}
 use Rattle.model.proofs.Origin.{Stands, back-row}
 use Rattle.form.proofs.Accepted.{Accepted, accepted}
 use Rattle.write.proofs.Layers.{Written, sound-wide}
-use Rattle.edit.specs.Ready.{Ready}
+use Rattle.edit.specs.Ready.{Ready, entryIs, numberIs}
 
 -- a key column as a table of one column
 abbrev pub single : ℕ → Row
@@ -90,3 +94,25 @@ pub from-entry : (c m i : ℕ) (raw : List ℕ) → i < m
 from-entry c m i raw h =
     drop-cons (layerOf c m raw) i (editOf none) (omega (arith, layer-length c m raw))
     ∙ rw (entry-edit c m i raw h, add-one i)
+
+pub cons-head : {x y : Edit} {R S : Layer} → x ∷ R ≡ y ∷ S → x ≡ y
+cons-head e = cc
+
+-- what the test of entry number i by position and kind says of the edit there
+module _ (c m i p k : ℕ) (raw : List ℕ) (f : Edit → Bool) (is : (E : Entry) → f (editOf E) ≡ entryIs p k E) where
+  abbrev E : Entry
+  E = entryAt c (i * (c + 2)) raw
+
+  pub there : numberIs c m raw i p k ≡ true → i < m
+  there t = ltb-true i m (and-l (ltb i m) (entryIs p k E) t)
+
+  pub head-is : numberIs c m raw i p k ≡ true → f (editOf E) ≡ true
+  head-is t = is E ∙ and-r (ltb i m) (entryIs p k E) t
+
+  pub head-not : numberIs c m raw i p k ≡ false → (x : Edit) (R : Layer) → drop i (layerOf c m raw) ≡ x ∷ R → f x ≡ false
+  head-not t x R g = go (ltb i m) refl
+    where
+      go : (u : Bool) → ltb i m ≡ u → f x ≡ false
+      go true q = ap f (cons-head (sym g ∙ from-entry c m i raw (ltb-true i m q))) ∙ (is E ∙ (rw q at t))
+      go false q =
+          absurd (omega (arith, ltb-false i m q, ap length g, length-drop i (layerOf c m raw), layer-length c m raw))

@@ -7,3 +7,5 @@ pub mod Changed
 pub mod Cores
 pub mod Answered
 pub mod Rows
+pub mod Showing
+pub mod Added

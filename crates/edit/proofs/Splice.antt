@@ -33,6 +33,11 @@ module _ {A : Type 0} where
   drop-mem (suc i) [] x m = m
   drop-mem (suc i) (y ∷ L) x m = next (drop-mem i L x m)
 
+  pub pairs-drop : (R : A → A → Bool) (i : ℕ) (L : List A) → AllPairs R L → AllPairs R (drop i L)
+  pairs-drop R zero L p = p
+  pairs-drop R (suc i) [] p = p
+  pairs-drop R (suc i) (x ∷ L) p = pairs-drop R i L (p .1)
+
   -- an element taken out
   pub without-at : (i : ℕ) (L : List A) → without i L ≡ take i L ++ drop (i + 1) L
   without-at zero [] = refl

@@ -1,4 +1,5 @@
 // The three edits of a layer: add a row, strike a row, change a column of a row.
+mod adding;
 mod base;
 mod landing;
 
@@ -12,7 +13,7 @@ ghost use Rattle.model.specs.Cell.{to};
 ghost use Rattle.model.specs.Layer.{rowsAfter};
 ghost use Rattle.model.specs.Raw.{layerOf};
 ghost use Rattle.model.specs.Edits.{strikeRow, changeRowNo};
-ghost use Rattle.model.specs.Calls.{edited, strikeAnswer, struckLayer, changeAnswer, changedLayer};
+ghost use Rattle.model.specs.Calls.{edited, addAnswer, addedLayer, strikeAnswer, struckLayer, changeAnswer, changedLayer};
 ghost use Rattle.edit.specs.Ready.{Ready, readyAnswer};
 ghost use Rattle.edit.specs.Outcome.{Entered};
 
@@ -35,6 +36,23 @@ fn ready(c: usize, m: usize, layer: &[u64], keys: &[u64]) -> Answer
             }
             Answer::Done(rows)
         }
+    }
+}
+
+// Add a row: an add entry at its position, in key order among the adds there.
+pub fn add(c: usize, m: usize, layer: &mut [u64], keys: &[u64], row: &[u64]) -> Answer
+    ensures { λ x. ⌜ (x ≡ addAnswer c m (now (layer .entry)) (now (keys .entry)) (now (row .entry)))
+        × (now (layer .exit) ≡ edited c m x (addedLayer c m (now (layer .entry)) (now (keys .entry)) (now (row .entry))) (now (layer .entry))) ⌝ }
+{
+    if row.len() != c {
+        return Answer::Refused(Refusal {
+            number: 1,
+            place: 0,
+        });
+    }
+    match ready(c, m, layer, keys) {
+        Answer::Refused(x) => Answer::Refused(x),
+        Answer::Done(rows) => adding::add_row(c, m, layer, keys, row, rows),
     }
 }
 

@@ -1,19 +1,18 @@
 -- A walk along X with a cursor in Y: the cursor serves every entry of X from here on, tells whether this one is in conflict, and gives its new position.
 -- Assumes nothing.
-use Prim.Native.Nat.{ℕ, suc, _+_, _*_, _-_, _≤_, _<_}
+use Prim.Native.Nat.{ℕ, _+_, _*_, _-_, _≤_, _<_}
 use native.Mathlib.Nat.{sub-zero}
 use native.Mathlib.Omega.{arith}
 use mathlib.Core.Path.{_≡_, refl, sym, ap, _∙_, subst}
-use mathlib.Core.Bool.{Bool, true, false, cond}
+use mathlib.Core.Bool.{Bool, true}
 use mathlib.Core.List.{List, [], _∷_, map, List·Memᴰ as Mem, List·Memᴰ·head as here, List·Memᴰ·tail as next}
 use lib.ListN.{length}
-use Rattle.order.specs.Lists.{count, firstAt}
+use Rattle.order.specs.Lists.{count}
 use Rattle.order.proofs.Pairs.{AllPairs}
-use Rattle.model.specs.declared.Entry.{Entry}
-use Rattle.model.specs.Layer.{Deed, Edit, at, Layer, isAdd, isStrike}
-use Rattle.model.specs.Raw.{Held, entryAt, entriesAt, deedOf, editOf, layerOf}
+use Rattle.model.specs.Layer.{Edit, at, Layer, isAdd, isStrike}
+use Rattle.model.specs.Raw.{entryAt, entriesAt, deedOf, editOf, layerOf}
 use Rattle.model.specs.Edits.{before}
-use Rattle.model.specs.Conflict.{met, clashesWith, conflictPlace}
+use Rattle.model.specs.Conflict.{met, clashesWith}
 use Rattle.model.specs.Move.{moved}
 use Rattle.model.proofs.Raw as raw
 use Rattle.model.proofs.Edits.{before-trans}

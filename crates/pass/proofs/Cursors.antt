@@ -1,17 +1,16 @@
 -- A cursor in a layer: where it stands, what is left from it on, and what moving it on passes.
 -- Assumes nothing.
-use Prim.Native.Nat.{ℕ, suc, _+_, _*_, _-_, _≤_, _<_}
+use Prim.Native.Nat.{ℕ, _+_, _-_, _≤_, _<_}
 use native.Mathlib.Nat.{sub-zero}
 use native.Mathlib.Omega.{arith}
 use mathlib.Core.Path.{_≡_, refl, sym, ap, _∙_}
-use mathlib.Core.Bool.{Bool, true, false, cond}
+use mathlib.Core.Bool.{Bool, true, false}
 use mathlib.Core.List.{List, [], _∷_, map}
 use lib.ListN.{length}
 use lib.Dec.{eqb}
 use Rattle.order.specs.Lists.{one, count}
 use Rattle.order.proofs.Tests.{one-le}
-use Rattle.model.specs.declared.Entry.{Entry}
-use Rattle.model.specs.Layer.{Edit, Layer, isAdd, isStrike}
+use Rattle.model.specs.Layer.{Edit, isAdd, isStrike}
 use Rattle.model.specs.Raw.{ADD, STRIKE, Held, entryAt, entriesAt, editOf, layerOf}
 use Rattle.model.proofs.Raw as raw
 use Rattle.form.proofs.ByKind.{add-kind, strike-kind}

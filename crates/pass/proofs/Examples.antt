@@ -19,7 +19,7 @@ use Rattle.model.specs.Move.{addPosition}
 use Rattle.model.specs.Refusals.{refusal, breaksForm}
 use Rattle.model.specs.Calls.{written, movedLayer, moveAnswer}
 use Rattle.model.specs.Examples.{four, Example, edits, shifts, passes, refuses, combines, examples}
-use Rattle.pass.specs.Promises.{Outcome, MovesTo, StaysAt, OfCall, EachOfCall}
+use Rattle.pass.specs.Promises.{MovesTo, StaysAt, OfCall, EachOfCall}
 
 -- the one outcome of moving X past Y in the base of the examples
 abbrev answerOf : Layer → Layer → Answer

@@ -1,13 +1,12 @@
 -- The search for the lowest entry of X in any conflict: none was met so far, and the place is that of the first to come.
 -- Assumes nothing.
-use Prim.Native.Nat.{ℕ, _+_, _-_, _≤_, _<_}
+use Prim.Native.Nat.{ℕ, _+_, _≤_, _<_}
 use native.Mathlib.Nat.{zero-add, sub-zero}
 use native.Mathlib.Omega.{arith}
-use mathlib.Core.Path.{_≡_, refl, sym, ap, _∙_}
-use mathlib.Core.Bool.{Bool, true, false}
-use mathlib.Core.List.{List, [], _∷_}
+use mathlib.Core.Path.{_≡_, sym, _∙_}
+use mathlib.Core.Bool.{true, false}
+use mathlib.Core.List.{List}
 use Rattle.order.specs.Lists.{firstAt}
-use Rattle.model.specs.Layer.{Edit, Layer}
 use Rattle.model.specs.Raw.{entryAt, editOf, layerOf}
 use Rattle.model.specs.Edits.{before}
 use Rattle.model.specs.Conflict.{met, clashesWith, conflictPlace}

@@ -1,22 +1,22 @@
 -- What is promised of a move: demand 3 of the call, one outcome for each input, a layer past itself, and the paper's examples.
 -- Assumes nothing.
-use Prim.Native.Nat.{ℕ, suc, zero, _+_, _-_, _*_, _≤_, _<_}
+use Prim.Native.Nat.{ℕ, suc, zero, _+_, _-_, _≤_, _<_}
 use native.Mathlib.Omega.{arith}
-use mathlib.Core.Path.{_≡_, refl, sym, ap, _∙_, subst}
-use mathlib.Core.Bool.{Bool, true, false, not, cond, _&&_, true≢false}
-use mathlib.Core.List.{List, [], _∷_, _++_, map, List·Memᴰ as Mem}
+use mathlib.Core.Path.{_≡_, refl, sym, ap, _∙_}
+use mathlib.Core.Bool.{Bool, true, false, not, cond}
+use mathlib.Core.List.{List, [], _∷_, _++_}
 use lib.ListN.{length, getD, drop, length-map}
-use lib.Dec.{ltb, leb, eqb}
+use lib.Dec.{ltb, leb}
 use borrow.Author.Tests.{ltb-true, le-ltb, le-leb, eq-eqb}
 use Rattle.order.specs.Lists.{one, ascending, any, count, firstAt}
-use Rattle.order.proofs.Tests.{and-of, or-l}
+use Rattle.order.proofs.Tests.{and-of}
 use Rattle.order.proofs.Counts.{count-map, count-same}
 use Rattle.model.specs.declared.Answer.{Answer}
 use Rattle.model.specs.declared.Answer.the-variants.{Done, Refused}
 use Rattle.model.specs.Answer.{numberOf}
-use Rattle.model.specs.Row.{Row, Table, key, keys}
+use Rattle.model.specs.Row.{Table, key, keys}
 use Rattle.model.specs.Cell.{to}
-use Rattle.model.specs.Layer.{Deed, add, strike, change, Edit, at, Layer, isAdd, isStrike, rowsAfter}
+use Rattle.model.specs.Layer.{add, strike, change, Edit, at, Layer, isAdd, isStrike, rowsAfter}
 use Rattle.model.specs.Raw.{entriesAt, layerOf, flat}
 use Rattle.model.specs.Form.{formPlace, inOrder, argsOk}
 use Rattle.model.specs.Fit.{fitPlace}
@@ -28,7 +28,6 @@ use Rattle.model.specs.Past.{Past}
 use Rattle.model.specs.Refusals.{Test, refuse, refusal, firstMet, breaksForm}
 use Rattle.model.specs.Calls.{written, movedLayer, moveAnswer}
 use Rattle.model.proofs.Raw.{layer-length, args-held}
-use Rattle.model.proofs.Fit.{Fit}
 use Rattle.model.proofs.Count.{read-length}
 use Rattle.model.proofs.Conflict.{conflicting, of-conflicting}
 use Rattle.model.proofs.Position as position

@@ -1,21 +1,29 @@
 -- A layer written out and read back is the layer that it was.
 -- Assumes nothing.
-use Prim.Native.Nat.{ℕ, zero, suc, _+_, _-_, _*_, _≤_, _<_}
-use native.Mathlib.Nat.{zero-add, add-zero}
+use Prim.Native.Nat.{ℕ, suc, _+_, _-_, _≤_, _<_}
 use native.Mathlib.Omega.{arith}
 use mathlib.Core.Path.{_≡_, refl, sym, ap, _∙_}
-use mathlib.Core.Bool.{Bool, true, false, cond, _&&_}
-use mathlib.Core.List.{List, [], _∷_, _++_, append-assoc, map, List·Memᴰ as Mem, List·Memᴰ·head as here, List·Memᴰ·tail as next}
-use lib.ListN.{length, getD, take, drop, replicate, length-replicate}
+use mathlib.Core.Bool.{true, _&&_}
+use mathlib.Core.List.{
+  List,
+  [],
+  _∷_,
+  _++_,
+  append-assoc,
+  map,
+  List·Memᴰ as Mem,
+  List·Memᴰ·head as here,
+  List·Memᴰ·tail as next,
+}
+use lib.ListN.{length, getD, take, replicate, length-replicate}
 use lib.Seq.{take-append-le, take-all}
 use lib.Dec.{leb, ltb, eqb}
-use borrow.Author.Tests.{ltb-true, leb-true, eqb-true, ne-eqb}
+use borrow.Author.Tests.{ltb-true, eqb-true, ne-eqb}
 use Rattle.order.specs.Lists.{gather}
-use Rattle.order.proofs.Tests.{and-l, and-r}
-use Rattle.model.specs.declared.Entry.{Entry}
+use Rattle.order.proofs.Tests.{and-r}
 use Rattle.model.specs.Row.{Row}
 use Rattle.model.specs.Cell.{to}
-use Rattle.model.specs.Layer.{Deed, add, strike, change, Edit, at, Layer}
+use Rattle.model.specs.Layer.{add, strike, change, Edit, at, Layer}
 use Rattle.model.specs.Raw.{ADD, STRIKE, entryAt, entriesAt, editOf, numbersOf, layerOf, flat}
 use Rattle.model.specs.Form.{sound}
 use Rattle.model.proofs.Raw.{entries-past}

@@ -5,14 +5,22 @@ use native.Mathlib.Nat.{sub-zero, zero-mul, suc-mul}
 use native.Mathlib.Numerals.{add-one}
 use native.Mathlib.Omega.{arith}
 use mathlib.Core.Path.{_≡_, refl, sym, ap, _∙_}
-use mathlib.Core.Bool.{Bool, true, false}
-use mathlib.Core.List.{List, [], _∷_, _++_, append-assoc, map, List·Memᴰ as Mem, List·Memᴰ·head as here, List·Memᴰ·tail as next}
+use mathlib.Core.Bool.{true}
+use mathlib.Core.List.{
+  List,
+  _∷_,
+  _++_,
+  append-assoc,
+  map,
+  List·Memᴰ as Mem,
+  List·Memᴰ·head as here,
+  List·Memᴰ·tail as next,
+}
 use lib.ListN.{length, getD, take, drop, set, length-set, take-append-drop}
 use lib.Seq.{take-add, drop-drop, drop-cons, take-set-le, drop-set-lt, getD-set-same, getD-drop}
 use Rattle.order.specs.Lists.{gather}
-use Rattle.order.proofs.Pairs.{AllPairs}
 use Rattle.model.specs.declared.Entry.{Entry}
-use Rattle.model.specs.Layer.{Edit, at, Layer, position}
+use Rattle.model.specs.Layer.{at, position}
 use Rattle.model.specs.Raw.{entryAt, entriesAt, deedOf, editOf, numbersOf, layerOf, flat}
 use Rattle.model.specs.Form.{zeros}
 use Rattle.model.specs.Edits.{before}

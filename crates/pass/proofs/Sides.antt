@@ -1,35 +1,33 @@
 -- What is known of X and Y where refusals 1 to 4 are not met: both fit the keys, so they can be walked along, and X can be moved.
 -- Assumes nothing.
-use Prim.Native.Nat.{ℕ, suc, _+_, _-_, _*_, _≤_, _<_}
+use Prim.Native.Nat.{ℕ, _+_, _*_, _≤_}
 use native.Mathlib.Omega.{arith}
-use mathlib.Core.Path.{_≡_, refl, sym, ap, _∙_, subst}
-use mathlib.Core.Bool.{Bool, true, false, not, cond, _&&_, _||_}
-use mathlib.Core.List.{List, [], _∷_, _++_, map, List·Memᴰ as Mem}
-use lib.ListN.{length, length-map, length-append, take, drop}
+use mathlib.Core.Path.{_≡_, refl, sym, ap, _∙_}
+use mathlib.Core.Bool.{Bool, true, false, not, _&&_}
+use mathlib.Core.List.{List, [], _∷_, _++_, map}
+use lib.ListN.{length, length-map, length-append}
 use lib.Seq.{length-take-le}
 use lib.Dec.{ltb, leb, eqb}
-use borrow.Author.Tests.{ltb-false, ltb-true, leb-true, eq-eqb, not-true}
+use borrow.Author.Tests.{ltb-false, ltb-true, leb-true, eq-eqb}
 use Rattle.order.specs.Lists.{ascending, count, gather}
-use Rattle.order.proofs.Tests.{and-l, and-r, or-false}
-use Rattle.order.proofs.Pairs.{AllPairs, broken-le}
-use Rattle.order.proofs.Ascending.{AscFrom, below, asc-of}
-use Rattle.model.specs.declared.Refusal.{Refusal}
-use Rattle.model.specs.declared.Answer.{Answer}
-use Rattle.model.specs.declared.Answer.the-variants.{Done, Refused}
-use Rattle.model.specs.Row.{Row, Table, key, keys}
+use Rattle.order.proofs.Tests.{and-l, and-r}
+use Rattle.order.proofs.Pairs.{broken-le}
+use Rattle.order.proofs.Ascending.{below, asc-of}
+use Rattle.model.specs.declared.Answer.the-variants.{Done}
+use Rattle.model.specs.Row.{Table, key, keys}
 use Rattle.model.specs.Cell.{to}
-use Rattle.model.specs.Layer.{Deed, add, strike, change, Edit, at, Layer, position, rowsAfter}
+use Rattle.model.specs.Layer.{add, strike, change, Edit, at, Layer, position, rowsAfter}
 use Rattle.model.specs.Raw.{numbersOf, layerOf, flat}
-use Rattle.model.specs.Form.{sound, inOrder, argsOk}
+use Rattle.model.specs.Form.{sound, argsOk}
 use Rattle.model.specs.Fit.{suits, rises, fitPlace, fits}
 use Rattle.model.specs.Conflict.{conflict}
 use Rattle.model.specs.Move.{moved, move}
-use Rattle.model.specs.Refusals.{firstMet, breaksForm}
-use Rattle.model.specs.Calls.{formAnswer, written, movedLayer, moveAnswer}
+use Rattle.model.specs.Refusals.{breaksForm}
+use Rattle.model.specs.Calls.{formAnswer, moveAnswer}
 use Rattle.model.proofs.Fit.{Fit, Good, good-of}
 use Rattle.form.specs.InForm.{InForm}
-use Rattle.form.proofs.Accepted.{Accepted, accepted, Fitted}
-use Rattle.pass.specs.Walk.{Matched, Walkable, Movable}
+use Rattle.form.proofs.Accepted.{accepted, Fitted}
+use Rattle.pass.specs.Walk.{Walkable, Movable}
 use Rattle.pass.specs.Stages.{formTests, fitTests, passTests, Weighed}
 use Rattle.pass.proofs.Stages.{Passed, stage-passed, passed-append, move-stages}
 

@@ -1,30 +1,29 @@
 -- The stages of refusal: a stage that refuses answers for the whole call, one that accepts hands on to the next; and what acceptance of each gives.
 -- Assumes nothing.
-use Prim.Native.Nat.{ℕ, suc, _+_, _-_, _*_, _≤_, _<_}
+use Prim.Native.Nat.{ℕ, suc, _+_, _≤_, _<_}
 use native.Mathlib.Nat.{zero-add}
 use native.Mathlib.Omega.{arith}
 use mathlib.Core.Path.{_≡_, refl, sym, ap, _∙_}
-use mathlib.Core.Bool.{Bool, true, false, not, cond, _&&_, _||_}
+use mathlib.Core.Bool.{Bool, true, false, cond, _&&_, _||_}
 use mathlib.Core.List.{List, [], _∷_, _++_}
 use lib.ListN.{length}
 use lib.Dec.{ltb}
-use borrow.Author.Tests.{ltb-false, lt-ltb, le-ltb, eq-eqb}
-use Rattle.order.specs.Lists.{ascending, any, firstAt, count}
+use borrow.Author.Tests.{lt-ltb, le-ltb}
+use Rattle.order.specs.Lists.{ascending, any, firstAt}
 use Rattle.order.proofs.Tests.{and-l, and-r, same-test, tests}
 use Rattle.order.proofs.Pairs.{broken-le}
 use Rattle.model.specs.declared.Refusal.{Refusal}
 use Rattle.model.specs.declared.Answer.{Answer}
 use Rattle.model.specs.declared.Answer.the-variants.{Done, Refused}
-use Rattle.model.specs.Layer.{Edit, Layer, isAdd, isStrike, rowsAfter}
+use Rattle.model.specs.Layer.{Layer, rowsAfter}
 use Rattle.model.specs.Raw.{entriesOf, editOf, layerOf}
 use Rattle.model.specs.Form.{zeros, sound, follows, formPlace, argsOk}
-use Rattle.model.specs.Fit.{suits, rises, fitPlace, fits}
+use Rattle.model.specs.Fit.{fitPlace}
 use Rattle.model.specs.Conflict.{clashesWith, conflict, conflictPlace}
-use Rattle.model.specs.Refusals.{Test, refuse, refusal, firstMet, badForm, badKeys, badFit, breaksForm}
+use Rattle.model.specs.Refusals.{Test, refuse, refusal, firstMet, badForm, breaksForm}
 use Rattle.model.specs.Calls.{formAnswer, moveAnswer}
 use Rattle.model.proofs.Raw.{entries-length, layer-length, args-held}
-use Rattle.form.specs.InForm.{InForm}
-use Rattle.form.proofs.Accepted.{Accepted, accepted}
+use Rattle.form.proofs.Accepted.{accepted}
 use Rattle.form.proofs.Answers.{onward, raised, form-row}
 use Rattle.pass.specs.Stages.{formTests, fitTests, passTests, Weighed}
 

@@ -1,20 +1,20 @@
 -- The walk along two layers: what a cursor that only moves on has passed is all that stands before, and a conflict is met right ahead.
 -- Assumes nothing.
 use mathlib.Core.Path.{_≡_, refl, sym, ap, _∙_}
-use mathlib.Core.Logic.{_⊎_, inl, inr, ⊎-elim}
+use mathlib.Core.Logic.{⊎-elim}
 use mathlib.Core.Bool.{Bool, true, false, not, cond, _&&_, _||_, and-true, and-false, or-false, true≢false}
 use mathlib.Core.List.{List, [], _∷_, List·Memᴰ as Mem, List·Memᴰ·head as here, List·Memᴰ·tail as next}
-use Prim.Native.Nat.{ℕ, _+_, _-_, _≤_, _<_}
+use Prim.Native.Nat.{ℕ, _+_, _-_, _≤_}
 use native.Mathlib.Omega.{arith}
 use lib.Dec.{leb, ltb, eqb}
-use borrow.Author.Tests.{ltb-true, ltb-false, lt-ltb, le-ltb, le-leb, lt-leb, eqb-true, eqb-false, eq-eqb, ne-eqb}
-use Rattle.order.specs.Lists.{one, any, count}
+use borrow.Author.Tests.{ltb-true, le-leb, lt-leb, eqb-true, eq-eqb}
+use Rattle.order.specs.Lists.{one, count}
 use Rattle.order.proofs.Tests.{tests, and-l, and-r, eqb-sym, same-test, not-passed, or-cases, or-l}
 use Rattle.order.proofs.Members.{any-mem}
 use Rattle.order.proofs.Counts.{count-same, count-sum, count-zero}
 use Rattle.order.proofs.Pairs.{AllPairs, pairs-weaker}
 use Rattle.model.specs.Row.{Row, key}
-use Rattle.model.specs.Cell.{CellEdit, agree}
+use Rattle.model.specs.Cell.{agree}
 use Rattle.model.specs.Layer.{Deed, add, strike, change, Edit, at, Layer, position, isAdd, isStrike}
 use Rattle.model.specs.Form.{follows}
 use Rattle.model.specs.Position.{addUpTo, strikeBefore, rowOf}

@@ -1,13 +1,13 @@
 -- What is promised of a move, over every outcome that the call's contract allows.
 use mathlib.Core.Path.{_≡_}
-use mathlib.Core.Bool.{Bool, true, false}
+use mathlib.Core.Bool.{true, false}
 use mathlib.Core.List.{List, [], _∷_, _++_, map}
 use Prim.Native.Nat.{ℕ, _<_}
 use lib.ListN.{length, getD}
 use Rattle.model.specs.declared.Answer.{Answer}
 use Rattle.model.specs.declared.Answer.the-variants.{Done, Refused}
 use Rattle.model.specs.Row.{Table, keys}
-use Rattle.model.specs.Layer.{Edit, at, strike, Layer, position}
+use Rattle.model.specs.Layer.{at, strike, Layer, position}
 use Rattle.model.specs.Raw.{layerOf, flat}
 use Rattle.model.specs.Form.{keepsForm}
 use Rattle.model.specs.Fit.{fits}

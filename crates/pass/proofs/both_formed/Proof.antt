@@ -4,8 +4,7 @@ use borrow.Author.Needs.{needs}
 use borrow.Author.Tests.{not-true, not-false}
 use native.Mathlib.Omega.{arith}
 use mathlib.Core.Path.{_≡_, sym, _∙_}
-use mathlib.Core.Bool.{Bool, true, _&&_}
-use Prim.Native.Nat.{_≤_}
+use mathlib.Core.Bool.{true, _&&_}
 use lib.ListN.{length}
 use Rattle.model.specs.declared.Answer.the-variants.{Done}
 use Rattle.model.specs.Form.{argsOk}

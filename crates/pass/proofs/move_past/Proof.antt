@@ -3,8 +3,8 @@
 use borrow.Author.Needs.{needs}
 use mathlib.Core.Path.{_≡_, refl, sym, ap, _∙_}
 use Prim.Native.Nat.{ℕ}
-use mathlib.Core.List.{List, _++_}
-use lib.ListN.{length, drop}
+use mathlib.Core.List.{_++_}
+use lib.ListN.{drop}
 use Rattle.model.specs.declared.Answer.the-variants.{Done}
 use Rattle.model.specs.Raw.{flat}
 use Rattle.model.specs.Calls.{movedLayer, moveAnswer}

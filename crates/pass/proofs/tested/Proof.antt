@@ -9,7 +9,14 @@ use Rattle.model.specs.Layer.{rowsAfter}
 use Rattle.model.specs.Raw.{layerOf}
 use Rattle.form.specs.InForm.{InForm}
 use Rattle.pass.specs.Stages.{formTests, fitTests}
-use Rattle.pass.proofs.Stages.{firstStage, secondStage, stage-passed, first-refuses, second-refuses, third-answers}
+use Rattle.pass.proofs.Stages.{
+  firstStage,
+  secondStage,
+  stage-passed,
+  first-refuses,
+  second-refuses,
+  third-answers,
+}
 use Rattle.pass.proofs.Sides.{forms, sides, weighed}
 use Rattle.pass.proofs.tested.Statement.{statement}
 use Rattle.pass.proofs.tested.Tie as tie

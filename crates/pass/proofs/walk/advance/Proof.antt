@@ -4,8 +4,7 @@ use borrow.Author.Needs.{needs}
 use borrow.Author.Tests.{not-true, not-false}
 use native.Mathlib.Omega.{arith}
 use mathlib.Core.Path.{_≡_, sym, ap, _∙_}
-use mathlib.Core.Bool.{Bool}
-use Prim.Native.Nat.{ℕ, _+_, _-_, _≤_}
+use Prim.Native.Nat.{_+_, _-_, _≤_}
 use lib.ListN.{length}
 use lib.Dec.{eqb}
 use Rattle.order.specs.Lists.{one}
@@ -14,7 +13,7 @@ use Rattle.model.specs.Edits.{before}
 use Rattle.pass.specs.declared.head.Head.{Head}
 use Rattle.pass.specs.Head.{seen}
 use Rattle.pass.proofs.Heads.{head-before}
-use Rattle.pass.proofs.Cursors.{Next, room-here, Going, going-start, going-stop, going-end, going-on}
+use Rattle.pass.proofs.Cursors.{room-here, Going, going-start, going-stop, going-end, going-on}
 use Rattle.pass.proofs.walk.advance.Statement.{statement}
 use Rattle.pass.proofs.walk.advance.Tie as tie
 

@@ -2,10 +2,16 @@
 -- Assumes nothing.
 use borrow.Author.Needs.{needs}
 use native.Mathlib.Omega.{arith}
-use mathlib.Core.Path.{_≡_, sym, ap, _∙_}
-use Prim.Native.Nat.{ℕ, _+_, _-_, _*_, _^_, _≤_, _<_}
-use lib.ListN.{length, length-set}
-use Rattle.pass.proofs.Renumbering.{Renumbering, renumbering-start, renumbering-end, room, bounds, renumbering-on}
+use Prim.Native.Nat.{_+_, _-_, _*_, _^_, _≤_, _<_}
+use lib.ListN.{length}
+use Rattle.pass.proofs.Renumbering.{
+  Renumbering,
+  renumbering-start,
+  renumbering-end,
+  room,
+  bounds,
+  renumbering-on,
+}
 use Rattle.pass.proofs.walk.renumber.Statement.{statement}
 use Rattle.pass.proofs.walk.renumber.Tie as tie
 
