@@ -9,6 +9,8 @@ ghost use mathlib.Core.Path.{_≡_};
 ghost use Rattle.model.specs.Raw.{flat};
 ghost use Rattle.model.specs.Calls.{
   edited,
+  addAnswer,
+  addedLayer,
   strikeAnswer,
   struckLayer,
   changeAnswer,
@@ -158,6 +160,15 @@ pub extern "C" fn kw_back(c: usize, n: usize, m: usize, layer: &[u64], r: usize)
             value: x.place,
         },
     }
+}
+
+#[no_mangle]
+pub extern "C" fn kw_add(c: usize, m: usize, layer: &mut [u64], keys: &[u64], row: &[u64]) -> Told
+    ensures { λ o. ⌜ Tells o (addAnswer c m (now (layer .entry)) (now (keys .entry)) (now (row .entry)))
+        × (now (layer .exit) ≡ edited c m (addAnswer c m (now (layer .entry)) (now (keys .entry)) (now (row .entry)))
+            (addedLayer c m (now (layer .entry)) (now (keys .entry)) (now (row .entry))) (now (layer .entry))) ⌝ }
+{
+    tell(edit::add(c, m, layer, keys, row))
 }
 
 #[no_mangle]
