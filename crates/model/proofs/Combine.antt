@@ -1,34 +1,26 @@
 -- Combining: R with W's strikes, changes and adds redone by key as edits keeps form and fits, and reads as R and then W in turn.
 -- Assumes nothing.
-use mathlib.Core.Path.{_≡_, refl, sym, ap, _∙_}
-use mathlib.Core.Logic.{_⊎_, inl, inr, ⊎-elim}
+use mathlib.Core.Path.{_≡_, refl, sym, ap, _∙_, subst}
+use mathlib.Core.Logic.{⊎-elim}
 use mathlib.Core.Bool.{Bool, true, false, cond, _&&_, true≢false}
-use mathlib.Core.List.{
-  List,
-  [],
-  _∷_,
-  map,
-  List·Memᴰ as Mem,
-  List·Memᴰ·head as here,
-  List·Memᴰ·tail as next,
-  List·Memᴰ·not-nil as not-nil,
-}
-use Prim.Native.Nat.{ℕ, zero, suc, _+_, _≤_, _<_}
-use native.Mathlib.Omega.{arith}
+use mathlib.Core.List.{List, [], _∷_, List·Memᴰ as Mem, List·Memᴰ·head as here, List·Memᴰ·tail as next}
+use Prim.Native.Nat.{ℕ, _≤_, _<_}
 use lib.ListN.{length, getD}
 use lib.Dec.{leb, ltb, eqb}
 use borrow.Author.Tests.{ltb-true, leb-true, eqb-true}
-use Rattle.order.specs.Lists.{count, gather, inTurn}
-use Rattle.order.proofs.Tests.{tests, and-l, and-r}
+use Rattle.order.specs.Lists.{gather, inTurn}
+use Rattle.order.proofs.Tests.{tests, and-l, and-r, and-of}
 use Rattle.order.proofs.Members.{insert-mem, mem-map, map-mem}
 use Rattle.order.proofs.Pairs.{AllPairs}
-use Rattle.order.proofs.Ascending.{AscFrom, At, below, at-mem, at-cast, at-same, mem-at}
+use Rattle.order.proofs.Ascending.{AscFrom, At, at-mem, at-cast, at-same, mem-at}
 use Rattle.order.proofs.Edited.{turn-keeps}
 use Rattle.order.proofs.Gather.{turn-gather}
 use Rattle.model.specs.Row.{Row, Table, key, keys}
 use Rattle.model.specs.Cell.{CellEdit}
 use Rattle.model.specs.Layer.{Deed, add, strike, change, Edit, at, Layer, rowsAfter, struck}
-use Rattle.model.specs.Form.{sound}
+use Rattle.model.specs.Limits.{mostRows}
+use Rattle.model.specs.Form.{inOrder, keepsForm}
+use Rattle.model.specs.Fit.{fits}
 use Rattle.model.specs.Read.{read, keysAfter}
 use Rattle.model.specs.Edits.{deedBefore, before, addRow, strikeRow, changeRowNo, rowOfKey}
 use Rattle.model.specs.Meaning.{keyOf, concerning, meaning}
@@ -48,7 +40,7 @@ use Rattle.model.specs.Redo.{
 }
 use Rattle.model.proofs.Layer.{of-struck, struck-of}
 use Rattle.model.proofs.Edits.{level}
-use Rattle.model.proofs.Fit.{Fit, Good, key-kept, key-of}
+use Rattle.model.proofs.Fit.{Good, key-kept, key-of, good-of, good-form, good-fits}
 use Rattle.model.proofs.Count.{read-ascends, read-length}
 use Rattle.model.proofs.Redo.{redoStrikes, redoChanges, redoAdds, strike-mem, mem-strike, putKey-key, read-redo}
 use Rattle.model.proofs.Column.{keys-read}
@@ -138,12 +130,14 @@ pub record Joins (c : ℕ) (T : Table) (k : ℕ) (L : Layer) (M : Table) (ds : L
   pub means : meaning (keys T) L k ≡ ds
 
 -- a deed done to the deeds for a key, where it concerns the key
-done-if : (f : Deed → List Deed → List Deed) (t : Bool) (d : Deed) (ds : List Deed) → cond t (f d ds) ds ≡ inTurn f (cond t (d ∷ []) []) ds
+done-if : (f : Deed → List Deed → List Deed) (t : Bool) (d : Deed) (ds : List Deed)
+    → cond t (f d ds) ds ≡ inTurn f (cond t (d ∷ []) []) ds
 done-if f true d ds = refl
 done-if f false d ds = refl
 
 -- a deed that does nothing
-done-not : (f : Deed → List Deed → List Deed) (t : Bool) (d : Deed) (ds : List Deed) → f d ds ≡ ds → ds ≡ inTurn f (cond t (d ∷ []) []) ds
+done-not : (f : Deed → List Deed → List Deed) (t : Bool) (d : Deed) (ds : List Deed) → f d ds ≡ ds
+    → ds ≡ inTurn f (cond t (d ∷ []) []) ds
 done-not f true d ds h = sym h
 done-not f false d ds h = refl
 
@@ -210,7 +204,8 @@ module _ (c : ℕ) (T : Table) (R W : Layer) (a : AscFrom key 0 T) (GR : Good c 
   ascends = read-ascends T R a (GR .fit)
 
   -- two edits of W that concern one key stand at one position, so in the order of their deeds
-  one-key : (p s : ℕ) (d e : Deed) → Mem (at p d) W → Mem (at s e) W → keyOf (keys (read T R)) (at p d) ≡ keyOf (keys (read T R)) (at s e)
+  one-key : (p s : ℕ) (d e : Deed) → Mem (at p d) W → Mem (at s e) W
+      → keyOf (keys (read T R)) (at p d) ≡ keyOf (keys (read T R)) (at s e)
       → before (at p d) (at s e) ≡ true → deedBefore d e ≡ true
   one-key p s d e m n k h = level p s d e (one-position (read T R) W ascends (GW .fit) p s d e m n k) h
 
@@ -239,7 +234,7 @@ module _ (c : ℕ) (T : Table) (R W : Layer) (a : AscFrom key 0 T) (GR : Good c 
       step (at s (strike l)) L M ds m S w = record {
         reads = strike-by-key c T a L M (S .reads) l w;
         means = strike-by-key-means c T a L M (S .reads) l k w
-          ∙ (ap (λ (x : List Deed). cond (eqb l k) (strikeDeeds l x) x) (S .means) ∙ done-if strikeTo (eqb l k) (strike l) ds);
+            ∙ (ap (λ (x : List Deed). cond (eqb l k) (strikeDeeds l x) x) (S .means) ∙ done-if strikeTo (eqb l k) (strike l) ds);
       }
       step (at s (change j e)) L M ds m S w = record { reads = S .reads; means = S .means ∙ done-not strikeTo (eqb (getD (keys (read T R)) s 0) k) (change j e) ds refl }
 
@@ -309,11 +304,12 @@ module _ (c : ℕ) (T : Table) (R W : Layer) (a : AscFrom key 0 T) (GR : Good c 
           record {
             reads = change-by-key c T a L M (S .reads) (getD K s 0) j e (h .0) (h .1) w;
             means = change-by-key-means c T a L M (S .reads) (getD K s 0) k j e (h .0) w
-              ∙ (ap (λ (x : List Deed). cond (eqb (getD K s 0) k) (changeDeeds j e x) x) (S .means)
-              ∙ done-if changeTo (eqb (getD K s 0) k) (change j e) ds);
+                ∙ (ap (λ (x : List Deed). cond (eqb (getD K s 0) k) (changeDeeds j e x) x) (S .means)
+                ∙ done-if changeTo (eqb (getD K s 0) k) (change j e) ds);
           }
 
-      keep : (d e : Edit) (M : Table) → Mem d W → Mem e W → before d e ≡ true → CanChange K e M → CanChange K e (doChange onTable K d M)
+      keep : (d e : Edit) (M : Table) → Mem d W → Mem e W → before d e ≡ true → CanChange K e M
+          → CanChange K e (doChange onTable K d M)
       keep d (at s (add r)) M m n h w = tt
       keep d (at s (strike k)) M m n h w = tt
       keep (at p (add r)) (at s (change j e)) M m n h w = w
@@ -358,9 +354,9 @@ module _ (c : ℕ) (T : Table) (R W : Layer) (a : AscFrom key 0 T) (GR : Good c 
           → Joins c T k (doAdd (onLayer (keys T)) e L) (doAdd onTable e M) (inTurn addTo (concerning (keys (read T R)) k e) ds)
       step (at s (add r)) L M ds m S w = record {
         reads = add-by-key c T a L M (S .reads) r
-          (eqb-true (length r) c (and-r (leb s (length (read T R))) (eqb (length r) c) (GW .each (at s (add r)) m))) w;
+            (eqb-true (length r) c (and-r (leb s (length (read T R))) (eqb (length r) c) (GW .each (at s (add r)) m))) w;
         means = add-means T L a (S .reads .good .fit) k r
-          ∙ (ap (λ (x : List Deed). cond (eqb (key r) k) (addDeeds r x) x) (S .means) ∙ done-if addTo (eqb (key r) k) (add r) ds);
+            ∙ (ap (λ (x : List Deed). cond (eqb (key r) k) (addDeeds r x) x) (S .means) ∙ done-if addTo (eqb (key r) k) (add r) ds);
       }
       step (at s (strike l)) L M ds m S w = record { reads = S .reads; means = S .means ∙ done-not addTo (eqb l k) (strike l) ds refl }
       step (at s (change j e)) L M ds m S w = record { reads = S .reads; means = S .means ∙ done-not addTo (eqb (getD (keys (read T R)) s 0) k) (change j e) ds refl }
@@ -385,7 +381,10 @@ module _ (c : ℕ) (T : Table) (R W : Layer) (a : AscFrom key 0 T) (GR : Good c 
   combined : Joins c T k (combine (keys T) R W) (redo onTable (keys (read T R)) W (read T R))
       (joined (meaning (keys T) R k) (meaning (keys (read T R)) W k))
   unfolding combine struckLayer struckTable changedLayer changedTable struckDeeds changedDeeds concerns joined meaning
-  combined = rw (keys-read T R (key-kept T R (GR .fit))) (record { reads = adds-done .reads; means = adds-done .means ∙ sym folded })
+  combined =
+      subst (λ (K : List ℕ). Joins c T k (redo (onLayer (keys T)) K W R) (redo onTable (keys (read T R)) W (read T R))
+      (joined (meaning (keys T) R k) (meaning (keys (read T R)) W k))) (sym (keys-read T R (key-kept T R (GR .fit))))
+      (record { reads = adds-done .reads; means = adds-done .means ∙ sym folded })
     where
       f : Edit → List Deed
       f = concerning (keys (read T R)) k
@@ -421,3 +420,20 @@ module _ (c : ℕ) (T : Table) (R W : Layer) (a : AscFrom key 0 T) (GR : Good c 
       sym (read-length T (combine (keys T) R W) (combine-good .fit))
       ∙ (ap length combine-reads
       ∙ (read-length (read T R) W (GW .fit) ∙ ap (λ (n : ℕ). rowsAfter n W) (read-length T R (GR .fit))))
+
+  -- and passes the tests of form and fit, where the rows after W are at most 4,096
+  pub combine-form : leb (rowsAfter (rowsAfter (length T) R) W) mostRows ≡ true
+      → keepsForm c (length T) (combine (keys T) R W) ≡ true
+  combine-form h =
+      and-of (inOrder c (length T) (combine (keys T) R W)) (leb (rowsAfter (length T) (combine (keys T) R W)) mostRows)
+      (good-form c T (combine (keys T) R W) a combine-good) (ap (λ (n : ℕ). leb n mostRows) combine-rows ∙ h)
+
+  pub combine-fits : fits (keys T) (combine (keys T) R W) ≡ true
+  combine-fits = good-fits c T (combine (keys T) R W) a combine-good
+
+-- the tests of the upper layer, over the rows and the keys after the lower one, say that it is good
+pub upper-good : (c : ℕ) (T : Table) (R W : Layer) → AscFrom key 0 T → Good c T R → inOrder c (rowsAfter (length T) R) W ≡ true
+    → fits (keysAfter (keys T) R) W ≡ true → Good c (read T R) W
+upper-good c T R W a GR fm ft =
+    good-of c (read T R) W (read-ascends T R a (GR .fit)) (ap (λ (n : ℕ). inOrder c n W) (read-length T R (GR .fit)) ∙ fm)
+    (ap (λ (K : List ℕ). fits K W) (sym (keys-read T R (key-kept T R (GR .fit)))) ∙ ft)

@@ -306,8 +306,7 @@ module _ (T : Table) (L : Layer) (a : AscFrom key 0 T) (F : Fit T L) (k : ℕ) w
           → (f x ≡ d ∷ []) × (before x (at s (change j e)) ≡ deedBefore d (change j e))
       level-with h (at p d) m d′ y =
           let w = gathered (keys T) k p d d′ y in
-          let z = changes-only s b n u h p d ((filter-mem g L (at p d) m) .0) (w .0) in
-          (
+          let z = changes-only s b n u h p d ((filter-mem g L (at p d) m) .0) (w .0) in (
             ofKey (keys T) k p d (w .0) ∙ ap (λ (x : Deed). x ∷ []) (sym (w .1)),
             before-level p s d (change j e) (z .0) ∙ ap (λ (x : Deed). deedBefore x (change j e)) (sym (w .1)),
           )
@@ -400,8 +399,7 @@ module _ (T : Table) (L : Layer) (a : AscFrom key 0 T) (F : Fit T L) (k : ℕ) w
       level-with h (at p d) m d′ y =
           let w = gathered (keys T) k p d d′ y in
           let ps : p ≡ s =
-          sym (position-of T L a F p d m) ∙ (ap (λ (l : ℕ). count (below key l) T) (w .0 ∙ sym h) ∙ sym (below-keys (key r) T)) in
-          (
+          sym (position-of T L a F p d m) ∙ (ap (λ (l : ℕ). count (below key l) T) (w .0 ∙ sym h) ∙ sym (below-keys (key r) T)) in (
             ofKey (keys T) k p d (w .0) ∙ ap (λ (x : Deed). x ∷ []) (sym (w .1)),
             before-level p s d (add r) ps ∙ ap (λ (x : Deed). deedBefore x (add r)) (sym (w .1)),
           )

@@ -2,7 +2,7 @@
 -- Assumes nothing.
 use mathlib.Core.Path.{_≡_, refl, sym, ap, _∙_}
 use mathlib.Core.Logic.{_⊎_, inl, inr, ⊎-elim}
-use mathlib.Core.Bool.{Bool, true, false, not, cond, true≢false}
+use mathlib.Core.Bool.{Bool, true, false, not, cond}
 use mathlib.Core.List.{
   List,
   [],
@@ -13,7 +13,7 @@ use mathlib.Core.List.{
   List·Memᴰ·tail as next,
   List·Memᴰ·not-nil as not-nil,
 }
-use Prim.Native.Nat.{ℕ, zero, suc, _+_, _≤_, _<_}
+use Prim.Native.Nat.{ℕ, zero, suc, _<_}
 use native.Mathlib.Omega.{arith}
 use lib.ListN.{length, set}
 use lib.Dec.{eqb}
