@@ -34,7 +34,45 @@ fn place(args: &[u64], layer: &[u64]) {
     say::back(place::back(c, n, m, layer, s));
 }
 
-fn on(word: u8, args: &[u64], was: &[u64], lent: &mut [u64], one: &[u64], two: &[u64]) {
+// add c m ; layer ; keys ; row
+fn add(args: &[u64], was: &[u64], layer: &mut [u64], keys: &[u64], row: &[u64]) {
+    say::answer(edit::add(arg(args, 0), arg(args, 1), layer, keys, row));
+    say::left(was, layer);
+}
+
+// strike c m r ; layer ; keys
+fn strike(args: &[u64], was: &[u64], layer: &mut [u64], keys: &[u64]) {
+    say::answer(edit::strike(arg(args, 0), arg(args, 1), layer, keys, arg(args, 2)));
+    say::left(was, layer);
+}
+
+// change c m r j v ; layer ; keys
+fn change(args: &[u64], was: &[u64], layer: &mut [u64], keys: &[u64]) {
+    let r = arg(args, 2);
+    let j = arg(args, 3);
+    let v = get(args, 4);
+    say::answer(edit::change(arg(args, 0), arg(args, 1), layer, keys, r, j, v));
+    say::left(was, layer);
+}
+
+// move c mx my ; X ; keys ; Y
+fn past(args: &[u64], was: &[u64], x: &mut [u64], keys: &[u64], y: &[u64]) {
+    let mx = arg(args, 1);
+    let my = arg(args, 2);
+    say::answer(pass::move_past(arg(args, 0), keys, mx, x, my, y));
+    say::left(was, x);
+}
+
+// The call that a case's letter names.
+fn on(
+    word: u8,
+    args: &[u64],
+    was: &[u64],
+    lent: &mut [u64],
+    one: &[u64],
+    two: &[u64],
+    three: &[u64],
+) {
     if word == b'f' {
         return fit(args, lent, one);
     }
@@ -43,6 +81,18 @@ fn on(word: u8, args: &[u64], was: &[u64], lent: &mut [u64], one: &[u64], two: &
     }
     if word == b'p' {
         return place(args, lent);
+    }
+    if word == b'a' {
+        return add(args, was, lent, one, two);
+    }
+    if word == b's' {
+        return strike(args, was, lent, one);
+    }
+    if word == b'h' {
+        return change(args, was, lent, one);
+    }
+    if word == b'm' {
+        return past(args, was, lent, one, two);
     }
 }
 
@@ -53,13 +103,17 @@ pub fn run(word: u8, xs: &[u64], ends: &[u64]) {
     if was.len() <= 8192 {
         let a: usize = 0;
         let e = run::copy_in(was, &mut space, 0);
+        let one = list(xs, ends, 2);
+        let two = list(xs, ends, 3);
+        let three = list(xs, ends, 4);
         on(
             word,
             list(xs, ends, 0),
             was,
             &mut space[a..e],
-            list(xs, ends, 2),
-            list(xs, ends, 3),
+            one,
+            two,
+            three,
         );
     }
 }
