@@ -37,7 +37,7 @@ pub rest : {c n : ℕ} (e : Edit) {L : Layer} → Formed c n (e ∷ L) → Forme
 rest e F = record { each = λ d m. F .each d (next m); pairs = F .pairs .1 }
 
 -- what follows a strike stands past it
-past-strike : (s k : ℕ) (e : Edit) → follows (at s (strike k)) e ≡ true → s < position e
+pub past-strike : (s k : ℕ) (e : Edit) → follows (at s (strike k)) e ≡ true → s < position e
 past-strike s k (at p d) h = ⊎-elim (λ l. l) (λ w. absurd (true≢false (sym (w .1)))) (lex-cases s p false h)
 
 -- so strikes stand at different positions, all of them below n

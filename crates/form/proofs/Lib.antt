@@ -6,3 +6,8 @@ pub mod Place
 pub mod Formed
 pub mod Flat
 pub mod Accepted
+pub mod Looks
+pub mod Ahead
+pub mod Fitting
+pub mod Answers
+pub mod Unique

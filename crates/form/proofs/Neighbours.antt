@@ -19,6 +19,15 @@ use Rattle.order.proofs.Tests.{and-l, same-test}
 use Rattle.order.proofs.Members.{all-mem, all-of}
 use Rattle.order.proofs.Pairs.{AllPairs, Unbroken}
 
+-- where no element breaks a rule, none does with the first among the earlier ones
+pub unbroken-next : {A : Type 0} {sure : A → Bool} {G : A → A → Bool} {earlier : List A} (x : A) {xs : List A}
+    → Unbroken sure G earlier (x ∷ xs) → Unbroken sure G (x ∷ earlier) xs
+unbroken-next {A} {G = G} x U = record {
+  each = λ z m. U .each z (next m);
+  past = λ y z n m. ⊎-elim (λ g. ap (λ (w : A). G w z) g ∙ U .pairs .0 z m) (λ k. U .past y z k (next m)) (cases-cons n);
+  pairs = U .pairs .1;
+}
+
 module _ {A : Type 0} (alone : A → Bool) (pair : A → A → Bool) where
   -- how many elements stand before the first that fails alone or with the one before it, which for the first is d
   abbrev pub leastAfter : A → List A → ℕ
@@ -41,17 +50,10 @@ module _ {A : Type 0} (alone sure : A → Bool) (pair G : A → A → Bool)
   neighbours d ys [] h U = refl
   neighbours d ys (x ∷ xs) h U =
       by (alone x) (pair d x) refl same
-      (λ p. neighbours x (d ∷ ys) xs (λ y m. (U .past y x m (here refl), all-mem (λ z. pair z x) (d ∷ ys) (sym same ∙ p) y m)) rest)
+      (λ p. neighbours x (d ∷ ys) xs (λ y m. (U .past y x m (here refl), all-mem (λ z. pair z x) (d ∷ ys) (sym same ∙ p) y m)) (unbroken-next x U))
     where
       same : pair d x ≡ all (λ y. pair y x) (d ∷ ys)
       same = speaks d x ys h (U .past d x (here refl) (here refl))
-
-      rest : Unbroken sure G (x ∷ d ∷ ys) xs
-      rest = record {
-        each = λ z m. U .each z (next m);
-        past = λ y z n m. ⊎-elim (λ g. ap (λ (w : A). G w z) g ∙ U .pairs .0 z m) (λ k. U .past y z k (next m)) (cases-cons n);
-        pairs = U .pairs .1;
-      }
 
       by : (a b : Bool) {u : Bool} → pair d x ≡ b → b ≡ u
           → (pair d x ≡ true → leastAfter alone pair x xs ≡ leastBroken alone pair (x ∷ d ∷ ys) xs)
@@ -66,11 +68,4 @@ module _ {A : Type 0} (alone sure : A → Bool) (pair G : A → A → Bool)
   from-start d [] h U = refl
   from-start d (x ∷ xs) h U =
       rw (h x) (ap (λ (k : ℕ). cond (alone x && true) (suc k) 0)
-      (neighbours x [] xs (λ y m. absurd (not-nil m)) rest))
-    where
-      rest : Unbroken sure G (x ∷ []) xs
-      rest = record {
-        each = λ z m. U .each z (next m);
-        past = λ y z n m. ⊎-elim (λ g. ap (λ (w : A). G w z) g ∙ U .pairs .0 z m) (λ k. absurd (not-nil k)) (cases-cons n);
-        pairs = U .pairs .1;
-      }
+      (neighbours x [] xs (λ y m. absurd (not-nil m)) (unbroken-next x U)))

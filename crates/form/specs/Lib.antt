@@ -1,1 +1,3 @@
+pub mod InForm
 pub mod Scan
+pub mod Suit

@@ -1,5 +1,6 @@
 // The form check and the fit check of a layer, each with the place of the least entry at fault.
 mod scan;
+mod suit;
 
 use model::Answer;
 use model::MOST_COLUMNS;
@@ -9,9 +10,12 @@ use model::Refusal;
 ghost use mathlib.Core.Path.{_≡_};
 ghost use Prim.Native.Nat.{_+_, _*_, _≤_, _<_};
 ghost use lib.ListN.{length, getD};
-ghost use Rattle.model.specs.Raw.{entryAt};
+ghost use Rattle.order.specs.Lists.{ascending};
+ghost use Rattle.model.specs.Raw.{entryAt, layerOf};
 ghost use Rattle.model.specs.Form.{argsOk};
-ghost use Rattle.model.specs.Calls.{formAnswer};
+ghost use Rattle.model.specs.Fit.{fitPlace};
+ghost use Rattle.model.specs.Calls.{formAnswer, fitAnswer};
+ghost use Rattle.form.specs.InForm.{InForm};
 
 // The arguments pass refusal 1: c columns, n rows, m entries in a slice of len numbers.
 pub fn args_ok(c: usize, n: usize, m: usize, len: usize) -> bool
@@ -74,4 +78,66 @@ pub fn check(c: usize, n: usize, m: usize, layer: &[u64]) -> Answer
         });
     }
     Answer::Done(shown - s.strikes)
+}
+
+// The keys are strictly ascending.
+pub fn keys_ascend(keys: &[u64]) -> bool
+    ensures { λ r. ⌜ r ≡ ascending (now (keys .entry)) ⌝ }
+{
+    let mut i: usize = 1;
+    while i < keys.len() {
+        if keys[i] <= keys[i - 1] {
+            return false;
+        }
+        i += 1;
+    }
+    true
+}
+
+// The place of the least entry of a layer in form that does not fit the keys, or m.
+pub fn fit_place(c: usize, m: usize, layer: &[u64], keys: &[u64]) -> usize
+    requires { ⌜ InForm c (length (now keys)) m (now layer) ⌝ }
+    ensures { λ r. ⌜ r ≡ fitPlace (now (keys .entry)) (layerOf c m (now (layer .entry))) ⌝ }
+{
+    let mut i: usize = 0;
+    let mut at: usize = 0;
+    let mut p: u64 = 0;
+    let mut q: u64 = 0;
+    let mut u: u64 = 0;
+    while i < m {
+        let s = layer[at];
+        let k = layer[at + 1];
+        let v = layer[at + 2];
+        if !(suit::suits_keys(c, m, i, at, layer, keys) & suit::rises(p, q, u, s, k, v)) {
+            return i;
+        }
+        p = s;
+        q = k;
+        u = v;
+        at += c + 2;
+        i += 1;
+    }
+    i
+}
+
+// Whether a layer is in form and fits the key column.
+pub fn fit(c: usize, m: usize, layer: &[u64], keys: &[u64]) -> Answer
+    ensures { λ r. ⌜ r ≡ fitAnswer c m (now (layer .entry)) (now (keys .entry)) ⌝ }
+{
+    match check(c, keys.len(), m, layer) {
+        Answer::Refused(x) => Answer::Refused(x),
+        Answer::Done(_) => {
+            if !keys_ascend(keys) {
+                return Answer::Refused(Refusal {
+                    number: 3,
+                    place: 0,
+                });
+            }
+            let place = fit_place(c, m, layer, keys);
+            if place < m {
+                return Answer::Refused(Refusal { number: 4, place });
+            }
+            Answer::Done(0)
+        }
+    }
 }

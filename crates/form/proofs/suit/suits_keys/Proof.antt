@@ -1,0 +1,107 @@
+-- `form::suit::suits_keys` meets its contract: by the entry's kind, what is left of the rules is one test.
+-- Assumes nothing.
+use borrow.Author.Needs.{needs}
+use native.Mathlib.Omega.{arith}
+use mathlib.Core.Path.{sym, ap, _∙_}
+use Prim.Native.Nat.{_-_, _<_}
+use lib.ListN.{length, getD}
+use Rattle.model.specs.Raw.{entryAt, entriesAt}
+use Rattle.form.proofs.Looks.{suits-add, suits-strike, suits-change, sound-add, sound-strike, first-at}
+use Rattle.form.proofs.suit.suits_keys.Statement.{statement}
+use Rattle.form.proofs.suit.suits_keys.Tie as tie
+
+mul-s : tie.Need-mul-s
+mul-s c = search needs
+
+shared-slice-read-s : tie.Need-shared-slice-read-s
+shared-slice-read-s c = search needs
+
+add-k : tie.Need-add-k
+add-k c = search needs
+
+mul-k : tie.Need-mul-k
+mul-k c = search needs
+
+shared-slice-read-k : tie.Need-shared-slice-read-k
+shared-slice-read-k c = search needs
+
+add-v : tie.Need-add-v
+add-v c = search needs
+
+mul-v : tie.Need-mul-v
+mul-v c = search needs
+
+shared-slice-read-v : tie.Need-shared-slice-read-v
+shared-slice-read-v c = search needs
+
+above-last-requires : tie.Need-above-last-requires
+above-last-requires c κs =
+    let s = c .before .before .before .before .before .before in
+    let a = s .args in
+    sound-add (a .c) (length (a .keys .now)) (entryAt (a .c) (a .at) (a .layer .now)) (s .pre .3) (c .if1 .taken)
+
+under-next-requires : tie.Need-under-next-requires
+under-next-requires c κs = search needs
+
+returns : tie.Need-returns
+returns c =
+    let s = c .before .before .before .before .before .before .before .before in
+    let a = s .args in
+    let xs = a .layer .now in
+    rw (
+      c .before .above-last .ensures,
+      c .under-next .ensures,
+      suits-add (a .keys .now) (entryAt (a .c) (a .at) xs) (entriesAt (a .c) (a .m - a .i) (a .at) xs) (c .before .before .if1 .taken),
+      first-at (a .c) (a .at) xs (s .pre .2),
+    )
+
+-- a strike stands at a row
+below : (c : tie.Then2) →
+    let a = c .before .before .before .before .before .before .before .args in
+    getD (a .layer .now) (a .at) 0 < length (a .keys .now)
+below c =
+    let s = c .before .before .before .before .before .before .before in
+    let a = s .args in
+    sound-strike (a .c) (length (a .keys .now)) (entryAt (a .c) (a .at) (a .layer .now)) (s .pre .3) (c .if2 .taken)
+
+mul-result : tie.Need-mul-result
+mul-result c = omega (arith, below c)
+
+shared-slice-read-result : tie.Need-shared-slice-read-result
+shared-slice-read-result c = omega (arith, below (c .before))
+
+returns-2 : tie.Need-returns-2
+returns-2 c =
+    let s = c .before .before .before .before .before .before .before .before in
+    let a = s .args in
+    let xs = a .layer .now in
+    rw (
+      suits-strike (a .keys .now) (entryAt (a .c) (a .at) xs) (entriesAt (a .c) (a .m - a .i) (a .at) xs) (c .before .if2 .taken),
+      first-at (a .c) (a .at) xs (s .pre .2),
+    )
+
+returns-3 : tie.Need-returns-3
+returns-3 c =
+    let a = c .before .before .before .before .before .before .before .args in
+    let xs = a .layer .now in
+    sym (suits-change (a .keys .now) (entryAt (a .c) (a .at) xs) (entriesAt (a .c) (a .m - a .i) (a .at) xs) (c .before .if1 .left) (c .if2 .left))
+
+pub suits-keys-spec : {M : Type 1} → statement M
+suits-keys-spec =
+    tie.close
+    (tie.spec
+    mul-s
+    shared-slice-read-s
+    add-k
+    mul-k
+    shared-slice-read-k
+    add-v
+    mul-v
+    shared-slice-read-v
+    above-last-requires
+    under-next-requires
+    returns
+    mul-result
+    shared-slice-read-result
+    returns-2
+    returns-3)

@@ -1,0 +1,38 @@
+-- The fit check as one pass: each entry is looked at alone, an add equal to a base key looks ahead for its strike, and after the one before it.
+use mathlib.Core.Bool.{Bool, true, false, not, cond, _&&_, _||_}
+use mathlib.Core.List.{List, [], _∷_}
+use Prim.Native.Nat.{ℕ, suc}
+use lib.ListN.{length, getD}
+use lib.Dec.{leb, ltb, eqb}
+use Rattle.model.specs.declared.Entry.{Entry}
+use Rattle.model.specs.Raw.{ADD, STRIKE}
+use Rattle.model.specs.Fit.{above}
+
+-- the key of an add or a strike, the value of a change
+abbrev pub first : Entry → ℕ
+first e = getD (e .vals) 0 0
+
+-- row s is struck by an entry of those that stand at s, from the first on
+unfoldable pub struckAhead : ℕ → List Entry → Bool
+struckAhead s [] = false
+struckAhead s (e ∷ es) = eqb (e .pos) s && (eqb (e .kind) STRIKE || struckAhead s es)
+
+-- an add with key k at s lies below K[s], or is equal to it where row s is struck ahead
+unfoldable pub underAhead : List ℕ → List Entry → ℕ → ℕ → Bool
+underAhead K es s k = leb (length K) s || (ltb k (getD K s 0) || (eqb k (getD K s 0) && struckAhead s es))
+
+-- the entry e, the first of es, breaks no rule alone
+unfoldable pub suitsAhead : List ℕ → Entry → List Entry → Bool
+suitsAhead K e es =
+    cond (eqb (e .kind) ADD) (above K (e .pos) (first e) && underAhead K es (e .pos) (first e))
+    (not (eqb (e .kind) STRIKE) || eqb (getD K (e .pos) 0) (first e))
+
+-- an entry at s of kind k and first value v may stand after one at p of kind q and first value u
+abbrev pub risesKind : ℕ → ℕ → ℕ → ℕ → ℕ → ℕ → Bool
+risesKind p q u s k v = not (eqb p s) || (not (eqb q ADD) || (not (eqb k ADD) || ltb u v))
+
+-- how many entries stand before the first that breaks a rule, where the one before the first is at p of kind q and first value u
+unfoldable pub fitFrom : List ℕ → ℕ → ℕ → ℕ → List Entry → ℕ
+fitFrom K p q u [] = 0
+fitFrom K p q u (e ∷ es) =
+    cond (suitsAhead K e (e ∷ es) && risesKind p q u (e .pos) (e .kind) (first e)) (suc (fitFrom K (e .pos) (e .kind) (first e) es)) 0
