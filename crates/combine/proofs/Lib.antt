@@ -1,0 +1,3 @@
+pub mod Deeds
+pub mod Keyed
+pub mod Weaving

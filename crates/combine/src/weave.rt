@@ -1,0 +1,13 @@
+// The walk along a lower and an upper layer: which edit goes next.
+// What the next edits of both layers make of each other.
+// Lower: the lower layer's stands as it is. Upper: the upper's stands, at its base position. UpperHere: the same, at the lower's position.
+// Drop: the lower's goes. Vanish: both go. Patch: the lower's added row takes the upper's changes in.
+pub enum Step {
+    Lower,
+    Upper,
+    UpperHere,
+    Drop,
+    Vanish,
+    Patch,
+}
+
