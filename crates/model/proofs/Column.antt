@@ -1,19 +1,10 @@
 -- A column of what is read is that column read alone, from its base column and the layer; the key column is one of them.
 -- Assumes nothing.
 use mathlib.Core.Path.{_≡_, refl, sym, ap, _∙_}
-use mathlib.Core.Logic.{_⊎_, inl, inr, ⊎-elim}
+use mathlib.Core.Logic.{inl, inr}
 use mathlib.Core.Bool.{Bool, true, false, cond, _&&_}
-use mathlib.Core.List.{
-  List,
-  [],
-  _∷_,
-  _++_,
-  map,
-  List·Memᴰ as Mem,
-  List·Memᴰ·head as here,
-  List·Memᴰ·tail as next,
-}
-use Prim.Native.Nat.{ℕ, zero, suc, _≤_, _<_}
+use mathlib.Core.List.{List, [], _∷_, _++_, map, List·Memᴰ as Mem, List·Memᴰ·head as here, List·Memᴰ·tail as next}
+use Prim.Native.Nat.{ℕ, suc, _<_}
 use native.Mathlib.Omega.{arith}
 use lib.ListN.{length}
 use lib.Dec.{leb, eqb}
@@ -22,19 +13,7 @@ use Rattle.order.proofs.Tests.{and-r}
 use Rattle.order.proofs.Ascending.{At, top, deep, at-mem}
 use Rattle.model.specs.Row.{Row, Table, cell, key, column, keys}
 use Rattle.model.specs.Cell.{CellEdit, done, put}
-use Rattle.model.specs.Layer.{
-  Deed,
-  add,
-  strike,
-  change,
-  Edit,
-  at,
-  Layer,
-  addsAt,
-  struck,
-  changed,
-  changedCell,
-}
+use Rattle.model.specs.Layer.{add, strike, change, at, Layer, addsAt, struck, changed, changedCell}
 use Rattle.model.specs.Read.{unless, through, read, readColumn, keysAfter}
 use Rattle.model.proofs.Cell.{put-here, put-elsewhere, put-length}
 use Rattle.model.proofs.Layer.{KeyKept, changed-length}
@@ -110,7 +89,8 @@ key-cell s (at p (change i e) ∷ L) r kk = go (λ q. key-cell s L q (λ p′ i�
     go ih false = ih r
 
 -- a column where every base row's cell reads as the cell alone does
-by-cell : (j : ℕ) (T : Table) (L : Layer) → ((p : ℕ) (r : Row) → At r p 0 T → cell j (changed p L r) ≡ changedCell p j L (cell j r))
+by-cell : (j : ℕ) (T : Table) (L : Layer)
+    → ((p : ℕ) (r : Row) → At r p 0 T → cell j (changed p L r) ≡ changedCell p j L (cell j r))
     → column j (read T L) ≡ readColumn j (column j T) L
 by-cell j T L h =
     through-map (cell j) (λ p. addsAt p L) (λ p r. unless (struck p L) (changed p L r)) 0 T

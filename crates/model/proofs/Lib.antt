@@ -18,3 +18,4 @@ pub mod Position
 pub mod Meaning
 pub mod Canonical
 pub mod Operator
+pub mod Combine

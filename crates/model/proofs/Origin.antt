@@ -1,7 +1,7 @@
 -- Row number r of what is read is the row of what stands behind it: base row s with its changes, or the row of added entry i.
 -- Assumes nothing.
 use mathlib.Core.Path.{_≡_, refl, sym, ap, _∙_}
-use mathlib.Core.Logic.{_⊎_, inl, inr, ⊎-elim}
+use mathlib.Core.Logic.{_⊎_, inl, inr}
 use mathlib.Core.Bool.{Bool, true, false, cond}
 use mathlib.Core.List.{
   List,
@@ -15,7 +15,7 @@ use mathlib.Core.List.{
   List·Memᴰ·not-nil as not-nil,
   List·Memᴰ·append-cases as append-cases,
 }
-use Prim.Native.Nat.{ℕ, zero, suc, _+_, _≤_, _<_}
+use Prim.Native.Nat.{ℕ, suc, _+_, _≤_, _<_}
 use native.Mathlib.Omega.{arith}
 use lib.ListN.{length, getD, replicate, length-replicate}
 use lib.Dec.{eqb}
@@ -23,7 +23,7 @@ use Rattle.order.proofs.Members.{map-mem}
 use Rattle.order.proofs.Ascending.{At, top, deep, at-mem, at-getD, getD-at}
 use Rattle.order.proofs.Edited.{at-map}
 use Rattle.model.specs.Row.{Row, Table}
-use Rattle.model.specs.Layer.{Deed, add, strike, change, Edit, at, Layer, addedBy, addsAt, struck, changed}
+use Rattle.model.specs.Layer.{add, strike, change, Edit, at, Layer, addsAt, struck, changed}
 use Rattle.model.specs.Read.{unless, through, read}
 use Rattle.model.specs.Position.{Origin, base, added, addNumbers, originsFrom, origins, back}
 use Rattle.model.proofs.Column.{map-unless, through-same, through-map, through-over}

@@ -1,4 +1,4 @@
--- Theorem 5: row numbers and origins are each other's inverse, a row number is a position plus its shift, and the shift is bounded.
+-- Theorem 5: row numbers and origins are inverse, a row number is a position and its shift, the shift is bounded.
 -- Assumes nothing.
 use Prim.Native.Nat.{ℕ, zero, suc, _+_, _-_, _≤_, _<_}
 use native.Mathlib.Nat.{add-zero, zero-add}
@@ -24,7 +24,20 @@ use lib.ListN.{length, getD, take, drop, replicate, length-append, List·getD-eq
 use lib.Seq.{append-snoc, getD-append-seam, take-append-seam, split-at, length-take-le}
 use lib.IntN.{ℤ, pos, negsuc, natAbs, subℕ, _+ℤ_}
 use lib.Dec.{leb, ltb, eqb, leb·suc-suc}
-use borrow.Author.Tests.{ltb-true, ltb-false, leb-true, leb-false, eqb-true, eqb-false, lt-ltb, le-ltb, le-leb, lt-leb, eq-eqb, ne-eqb, not-true}
+use borrow.Author.Tests.{
+  ltb-true,
+  ltb-false,
+  leb-true,
+  leb-false,
+  eqb-true,
+  lt-ltb,
+  le-ltb,
+  le-leb,
+  lt-leb,
+  eq-eqb,
+  ne-eqb,
+  not-true,
+}
 use Rattle.order.specs.Lists.{one, count, leastBroken}
 use Rattle.order.proofs.Tests.{tests, and-l, and-r, and-of, one-le}
 use Rattle.order.proofs.Counts.{count-append, count-sum, count-same, count-zero, count-le}
@@ -165,12 +178,14 @@ strikes-once s (at q (add r) ∷ L) p = omega (arith, strikes-once s L (p .1))
 strikes-once s (at q (change j e) ∷ L) p = omega (arith, strikes-once s L (p .1))
 strikes-once s (at q (strike k) ∷ L) p = go (strikes-once s L (p .1)) (eqb s q) refl
   where
-    go : count (strikesRow s) L ≡ one (struck s L) → (t : Bool) → eqb s q ≡ t → one t + count (strikesRow s) L ≡ one (t || struck s L)
+    go : count (strikesRow s) L ≡ one (struck s L) → (t : Bool) → eqb s q ≡ t
+        → one t + count (strikesRow s) L ≡ one (t || struck s L)
     go ih true f = rw (count-zero (strikesRow s) L each)
       where
         each : (e : Edit) → Mem e L → one (strikesRow s e) ≡ 0
         each (at w (add r)) m = refl
-        each (at w (strike l)) m = ap one (ne-eqb s w (λ g. omega (tests, follows-strike q w k (strike l) (p .0 (at w (strike l)) m))))
+        each (at w (strike l)) m = ap one (ne-eqb s w
+            (λ g. omega (tests, follows-strike q w k (strike l) (p .0 (at w (strike l)) m))))
         each (at w (change j e)) m = refl
     go ih false f = omega arith
 
@@ -218,12 +233,17 @@ Numbered L k (o ∷ os) = (number L o ≡ k) × Numbered L (suc k) os
 numbered-from : (L : Layer) (k l : ℕ) (os : List Origin) → k ≡ l → Numbered L k os → Numbered L l os
 numbered-from L k l os e N = rw (← e) N
 
-numbered-append : (L : Layer) (k : ℕ) (os us : List Origin) → Numbered L k os → Numbered L (k + length os) us → Numbered L k (os ++ us)
+numbered-append : (L : Layer) (k : ℕ) (os us : List Origin) → Numbered L k os → Numbered L (k + length os) us
+    → Numbered L k (os ++ us)
 numbered-append L k [] us N M = numbered-from L (k + 0) k us (omega arith) M
-numbered-append L k (o ∷ os) us N M =
-    (N .0, numbered-append L (suc k) os us (N .1) (numbered-from L (k + suc (length os)) (suc k + length os) us (omega arith) M))
+numbered-append L k (o ∷ os) us N M = (
+  N .0,
+  numbered-append L (suc k) os us (N .1)
+      (numbered-from L (k + suc (length os)) (suc k + length os) us (omega arith) M),
+)
 
-numbered-getD : (L : Layer) (k r : ℕ) (os : List Origin) (d : Origin) → Numbered L k os → r < length os → number L (getD os r d) ≡ k + r
+numbered-getD : (L : Layer) (k r : ℕ) (os : List Origin) (d : Origin) → Numbered L k os → r < length os
+    → number L (getD os r d) ≡ k + r
 numbered-getD L k r [] d N h = absurd (omega arith)
 numbered-getD L k zero (o ∷ os) d N h = N .0 ∙ sym (add-zero k)
 numbered-getD L k (suc r) (o ∷ os) d N h = numbered-getD L (suc k) r os d (N .1) (omega arith) ∙ omega arith
@@ -242,7 +262,8 @@ module _ (s : ℕ) (row : Row) (E M : Layer) (P : AllPairs follows (E ++ (at s (
     where
       before : (e : Edit) → Mem e E → one (addBefore s e) + one (addAt s e) ≡ one (isAdd e)
       before (at p (add r)) m =
-          one-upto p s ∙ ap one (le-leb p s (follows-pos p s (add r) (add row) (pairs-at E (at s (add row)) M P .0 (at p (add r)) m)))
+          one-upto p s ∙ ap one (le-leb p s (follows-pos p s (add r) (add row)
+          (pairs-at E (at s (add row)) M P .0 (at p (add r)) m)))
       before (at p (strike k)) m = refl
       before (at p (change j e)) m = refl
 
@@ -270,7 +291,8 @@ module _ (s : ℕ) (row : Row) (E M : Layer) (P : AllPairs follows (E ++ (at s (
       later : (e : Edit) → Mem e M → one (strikeBefore s e) ≡ 0
       later (at p (add r)) m = refl
       later (at p (strike k)) m =
-          ap one (le-ltb p s (follows-pos s p (add row) (strike k) (pairs-at E (at s (add row)) M P .1 (at p (strike k)) m)))
+          ap one (le-ltb p s (follows-pos s p (add row) (strike k)
+          (pairs-at E (at s (add row)) M P .1 (at p (strike k)) m)))
       later (at p (change j e)) m = refl
 
   add-number : rowOfEntry (E ++ (at s (add row) ∷ M)) (length E)
@@ -285,7 +307,8 @@ adds-length s i [] = refl
 adds-length s i (at p (add r) ∷ M) =
     let ih = adds-length s (suc i) M in
     elim (eqb s p)
-    as (λ t. length (map added (cond t (i ∷ addNumbers s (suc i) M) (addNumbers s (suc i) M))) ≡ one t + count (addAt s) M) [
+    as (λ t. length (map added (cond t (i ∷ addNumbers s (suc i) M) (addNumbers s (suc i) M)))
+    ≡ one t + count (addAt s) M) [
       | true ↦ omega arith
       | false ↦ omega arith
     ]
@@ -304,7 +327,8 @@ module _ (L : Layer) (P : AllPairs follows L) (s : ℕ) where
       → Numbered L (one (addAt s x) + nextAdd E) (map added (addNumbers s (suc (length E)) M))
   past E x M N =
       let l : length (E ++ (x ∷ [])) ≡ suc (length E) = omega (arith, length-append E (x ∷ [])) in
-      numbered-from L (nextAdd (E ++ (x ∷ []))) (one (addAt s x) + nextAdd E) (map added (addNumbers s (suc (length E)) M))
+      numbered-from L (nextAdd (E ++ (x ∷ []))) (one (addAt s x) + nextAdd E)
+      (map added (addNumbers s (suc (length E)) M))
       (omega (arith, count-append (addAt s) E (x ∷ []))) (rw l at N)
 
   skip : (E M : Layer) → Numbered L (0 + nextAdd E) (map added (addNumbers s (suc (length E)) M))
@@ -315,16 +339,21 @@ module _ (L : Layer) (P : AllPairs follows L) (s : ℕ) where
   adds-numbered E [] w = tt
   adds-numbered E (x ∷ M) w = step x w (past E x M (adds-numbered (E ++ (x ∷ [])) M (w ∙ sym (append-snoc E x M))))
     where
-      step : (x : Edit) → L ≡ E ++ (x ∷ M) → Numbered L (one (addAt s x) + nextAdd E) (map added (addNumbers s (suc (length E)) M))
+      step : (x : Edit) → L ≡ E ++ (x ∷ M) → Numbered L (one (addAt s x) + nextAdd E)
+          (map added (addNumbers s (suc (length E)) M))
           → Numbered L (nextAdd E) (addsLeft E (x ∷ M))
       step (at p (add r)) w N = go (eqb s p) refl N
         where
           go : (t : Bool) → eqb s p ≡ t → Numbered L (one t + nextAdd E) (map added (addNumbers s (suc (length E)) M))
-              → Numbered L (nextAdd E) (map added (cond t (length E ∷ addNumbers s (suc (length E)) M) (addNumbers s (suc (length E)) M)))
+              → Numbered L (nextAdd E) (map added
+              (cond t (length E ∷ addNumbers s (suc (length E)) M) (addNumbers s (suc (length E)) M)))
           go true f N =
               let q : s ≡ p = eqb-true s p f in
-              let w′ : L ≡ E ++ (at s (add r) ∷ M) = w ∙ ap (λ (k : ℕ). E ++ (at k (add r) ∷ M)) (sym q) in
-              (rw w′ (add-number s r E M (rw w′ at P)), numbered-from L (1 + nextAdd E) (suc (nextAdd E)) (map added (addNumbers s (suc (length E)) M)) (omega arith) N)
+              let w′ : L ≡ E ++ (at s (add r) ∷ M) = w ∙ ap (λ (k : ℕ). E ++ (at k (add r) ∷ M)) (sym q) in (
+                rw w′ (add-number s r E M (rw w′ at P)),
+                numbered-from L (1 + nextAdd E) (suc (nextAdd E))
+                    (map added (addNumbers s (suc (length E)) M)) (omega arith) N,
+              )
           go false f N = skip E M N
       step (at p (strike k)) w N = skip E M N
       step (at p (change j e)) w N = skip E M N
@@ -350,7 +379,14 @@ module _ (L : Layer) (P : AllPairs follows L) where
   pub rows-before-next : (s : ℕ) → rowsBefore L (suc s) + one (struck s L) ≡ rowOf L s + 1
   unfolding rowOf
   rows-before-next s =
-      omega (arith, adds-before-next s L, strikes-next s L, strikes-once s L P, strikes-few s L P, strikes-few (suc s) L P)
+      omega (
+        arith,
+        adds-before-next s L,
+        strikes-next s L,
+        strikes-once s L P,
+        strikes-few s L P,
+        strikes-few (suc s) L P,
+      )
 
   adds-block : (s : ℕ) → Numbered L (rowsBefore L s) (addsOf s)
   adds-block s =
@@ -363,7 +399,8 @@ module _ (L : Layer) (P : AllPairs follows L) where
   all-numbered zero s = adds-block s
   all-numbered (suc k) s =
       numbered-append L (rowsBefore L s) (addsOf s) (rowOrNone s ++ originsFrom (suc s) (replicate k 0) L) (adds-block s)
-      (numbered-from L (rowOf L s) (rowsBefore L s + length (addsOf s)) (rowOrNone s ++ originsFrom (suc s) (replicate k 0) L)
+      (numbered-from L (rowOf L s) (rowsBefore L s + length (addsOf s))
+      (rowOrNone s ++ originsFrom (suc s) (replicate k 0) L)
       (omega (arith, row-after-adds s, adds-length s 0 L))
       (numbered-append L (rowOf L s) (rowOrNone s) (originsFrom (suc s) (replicate k 0) L) (row-block s)
       (numbered-from L (rowsBefore L (suc s)) (rowOf L s + length (rowOrNone s)) (originsFrom (suc s) (replicate k 0) L)
@@ -394,7 +431,13 @@ module _ (L : Layer) (P : AllPairs follows L) where
   pub number-back : (n r : ℕ) → r < length (origins n L) → number L (back n L r) ≡ r
   unfolding origins
   number-back n r h =
-      omega (arith, numbered-getD L (rowsBefore L 0) r (originsFrom 0 (replicate n 0) L) (base n) (all-numbered n 0) h, adds-first L, strikes-first L)
+      omega (
+        arith,
+        numbered-getD L (rowsBefore L 0) r (originsFrom 0 (replicate n 0) L) (base n)
+            (all-numbered n 0) h,
+        adds-first L,
+        strikes-first L,
+      )
 
 -- Who is an origin: the base rows below n that are not struck, and the entries that add.
 abbrev pub entryNo : Layer → ℕ → Edit
@@ -413,7 +456,8 @@ module _ {A B : Type 0} (f : ℕ → List B) (g : ℕ → A → List B) (o : B) 
   through-mem x zero s m = inl (s, omega arith, omega arith, m)
   through-mem x (suc k) s m =
       ⊎-elim (λ m₁. inl (s, omega arith, omega arith, m₁))
-      (λ m₁. ⊎-elim (λ m₂. inr (s, omega arith, omega arith, m₂)) (λ m₂. later (through-mem x k (suc s) m₂)) (append-cases (g s x) m₁))
+      (λ m₁. ⊎-elim (λ m₂. inr (s, omega arith, omega arith, m₂)) (λ m₂. later (through-mem x k (suc s) m₂))
+      (append-cases (g s x) m₁))
       (append-cases (f s) m)
     where
       later : Comes (suc s) (suc s + k) x → Comes s (s + suc k) x
@@ -437,7 +481,8 @@ module _ {A B : Type 0} (f : ℕ → List B) (g : ℕ → A → List B) (o : B) 
       go (inr v) rest = at-s (eqb (v .0) s) refl
         where
           at-s : (t : Bool) → eqb (v .0) s ≡ t → Mem o (through f g s (replicate (suc k) x))
-          at-s true e = in-right (f s) (in-left (through f g (suc s) (replicate k x)) (rw (eqb-true (v .0) s e) at (v .3)))
+          at-s true e = in-right (f s) (in-left (through f g (suc s) (replicate k x))
+              (rw (eqb-true (v .0) s e) at (v .3)))
           at-s false e = rest (inr (v .0, omega (tests, v .1), omega (arith, v .2), v .3))
 
 -- the numbers of the adds at s are the places of such entries
@@ -448,7 +493,8 @@ adds-mem s i j (x ∷ M) m = step x (λ n. adds-mem s i (suc j) M n) m
     later : {x : Edit} → (row : Row) × At (at s (add row)) i (suc j) M → (row : Row) × At (at s (add row)) i j (x ∷ M)
     later w = (w .0, deep (w .1))
 
-    step : (x : Edit) → (Mem i (addNumbers s (suc j) M) → (row : Row) × At (at s (add row)) i (suc j) M) → Mem i (addNumbers s j (x ∷ M))
+    step : (x : Edit) → (Mem i (addNumbers s (suc j) M) → (row : Row) × At (at s (add row)) i (suc j) M)
+        → Mem i (addNumbers s j (x ∷ M))
         → (row : Row) × At (at s (add row)) i j (x ∷ M)
     step (at p (add r)) ih m = go (eqb s p) refl m
       where
@@ -466,7 +512,8 @@ mem-adds s i j row (x ∷ M) (deep n) = step x (mem-adds s i (suc j) row M n)
   where
     step : (x : Edit) → Mem i (addNumbers s (suc j) M) → Mem i (addNumbers s j (x ∷ M))
     step (at p (add r)) m =
-        elim (eqb s p) as (λ t. Mem i (cond t (j ∷ addNumbers s (suc j) M) (addNumbers s (suc j) M))) [ true ↦ next m | false ↦ m ]
+        elim (eqb s p) as (λ t. Mem i (cond t (j ∷ addNumbers s (suc j) M)
+        (addNumbers s (suc j) M))) [ true ↦ next m | false ↦ m ]
     step (at p (strike k)) m = m
     step (at p (change l e)) m = m
 
@@ -523,7 +570,8 @@ module _ (n : ℕ) (L : Layer) where
   mem-origins c U (added i) h =
       let w = add-at L i h in
       let p : ℕ = position (entryNo L i) in
-      let b : p ≤ n = leb-true p n (and-l (leb p n) (eqb (length (w .0)) c) (U .each (at p (add (w .0))) (at-mem (w .1)))) in
+      let b : p ≤ n = leb-true p n (and-l (leb p n) (eqb (length (w .0)) c)
+      (U .each (at p (add (w .0))) (at-mem (w .1)))) in
       mem-through adds rows (added i) 0 n 0
       (inl (p, omega arith, omega arith, mem-map added (addNumbers p 0 L) i (mem-adds p i 0 (w .0) L (w .1))))
 
@@ -544,7 +592,8 @@ split-stands s row E M P = (
   ),
 )
 
-entry-stands : (L : Layer) → AllPairs follows L → (i : ℕ) → isAdd (entryNo L i) ≡ true → Stands (position (entryNo L i)) L i
+entry-stands : (L : Layer) → AllPairs follows L → (i : ℕ) → isAdd (entryNo L i) ≡ true
+    → Stands (position (entryNo L i)) L i
 entry-stands L P i h =
     let b : i < length L = add-in L i h in
     let w = add-is (entryNo L i) h in
@@ -603,7 +652,8 @@ sum-of a b c h = go (ltb b c) refl
   where
     go : (t : Bool) → ltb b c ≡ t → pos a +ℤ cond t (negsuc (c - suc b)) (pos (b - c)) ≡ pos ((a + b) - c)
     go true e =
-        rw (le-ltb a (suc (c - suc b)) (omega tests)) (ap pos (let w : a - suc (c - suc b) ≡ (a + b) - c = omega tests in w))
+        rw (le-ltb a (suc (c - suc b)) (omega tests))
+        (ap pos (let w : a - suc (c - suc b) ≡ (a + b) - c = omega tests in w))
     go false e = ap pos (let w : a + (b - c) ≡ (a + b) - c = omega tests in w)
 
 sub-bounded : (k a b : ℕ) → a ≤ k → b ≤ k → fromTo k (subℕ a b) ≡ true
@@ -664,7 +714,8 @@ module _ (c n : ℕ) (L : Layer) (ok : inOrder c n L ≡ true) where
   pub base-row-back : (s : ℕ) → s < n → struck s L ≡ false → (rowOf L s < rowsAfter n L) × (back n L (rowOf L s) ≡ base s)
   base-row-back s h e = number-shown (base s) (and-of (ltb s n) (not (struck s L)) (lt-ltb s n h) (ap not e))
 
-  pub back-base-row : (r s : ℕ) → r < rowsAfter n L → back n L r ≡ base s → (s < n) × (struck s L ≡ false) × (rowOf L s ≡ r)
+  pub back-base-row : (r s : ℕ) → r < rowsAfter n L → back n L r ≡ base s
+      → (s < n) × (struck s L ≡ false) × (rowOf L s ≡ r)
   back-base-row r s h e =
       let w = back-number r h in
       let t : ltb s n && not (struck s L) ≡ true = ap (isShown n L) (sym e) ∙ w .0 in (
@@ -674,7 +725,8 @@ module _ (c n : ℕ) (L : Layer) (ok : inOrder c n L ≡ true) where
       )
 
   -- an entry that adds, to its row number and back
-  pub added-back : (i : ℕ) → isAdd (entryNo L i) ≡ true → (rowOfEntry L i < rowsAfter n L) × (back n L (rowOfEntry L i) ≡ added i)
+  pub added-back : (i : ℕ) → isAdd (entryNo L i) ≡ true
+      → (rowOfEntry L i < rowsAfter n L) × (back n L (rowOfEntry L i) ≡ added i)
   added-back i h = number-shown (added i) h
 
   pub back-added : (r i : ℕ) → back n L r ≡ added i

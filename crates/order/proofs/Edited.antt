@@ -2,7 +2,7 @@
 -- Assumes nothing.
 use mathlib.Core.Path.{_≡_, refl, sym, ap, _∙_}
 use mathlib.Core.Logic.{_⊎_, inl, inr, ⊎-elim}
-use mathlib.Core.Bool.{Bool, true, false, not, cond, true≢false}
+use mathlib.Core.Bool.{Bool, true, false, not, cond}
 use mathlib.Core.List.{
   List,
   [],
@@ -13,7 +13,7 @@ use mathlib.Core.List.{
   List·Memᴰ·tail as next,
   List·Memᴰ·not-nil as not-nil,
 }
-use Prim.Native.Nat.{ℕ, zero, suc, _+_, _≤_, _<_}
+use Prim.Native.Nat.{ℕ, zero, suc, _<_}
 use native.Mathlib.Omega.{arith}
 use lib.ListN.{length, set}
 use lib.Dec.{eqb}
@@ -96,6 +96,12 @@ module _ {A B : Type 0} where
   at-map f i [] b a = absurd (at-none a)
   at-map f zero (x ∷ M) b a = (x, top refl refl, at-head a)
   at-map f (suc i) (x ∷ M) b a = let w = at-map f i M b (at-tail a) in (w .0, at-next x (w .1), w .2)
+
+  -- what each step of a walk keeps, the walk keeps
+  pub turn-keeps : (P : B → Type 0) (f : A → B → B) (xs : List A) (b : B) → ((x : A) → Mem x xs → (c : B) → P c → P (f x c)) → P b
+      → P (inTurn f xs b)
+  turn-keeps P f [] b h p = p
+  turn-keeps P f (x ∷ xs) b h p = turn-keeps P f xs (f x b) (λ y m. h y (next m)) (h x (here refl) b p)
 
   -- a walk passes over an element that does nothing
   pub turn-insert : (f : A → B → B) (R : A → A → Bool) (e : A) (xs : List A) (b : B) → ((c : B) → f e c ≡ c)

@@ -4,3 +4,4 @@ pub mod Counts
 pub mod Pairs
 pub mod Ascending
 pub mod Edited
+pub mod Gather

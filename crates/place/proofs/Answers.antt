@@ -9,7 +9,7 @@ use lib.ListN.{length}
 use lib.IntN.{pos, natAbs, _+ℤ_}
 use lib.Signed.{nonNeg}
 use lib.Dec.{leb}
-use borrow.Author.Tests.{le-leb, lt-leb, leb-true}
+use borrow.Author.Tests.{le-leb, lt-leb, leb-true, leb-false}
 use Rattle.model.specs.declared.Refusal.{Refusal}
 use Rattle.model.specs.declared.Answer.{Answer}
 use Rattle.model.specs.declared.Answer.the-variants.{Done, Refused}
@@ -21,6 +21,8 @@ use Rattle.model.specs.Form.{inOrder, argsOk, formPlace}
 use Rattle.model.specs.Position.{shift, rowOf, back}
 use Rattle.model.specs.Refusals.{Test, firstMet, refusal, badArgs, badForm, badRow, breaksForm}
 use Rattle.model.specs.Calls.{formAnswer, shiftAnswer, rowAnswer, backAnswer, originAnswer}
+use Rattle.form.proofs.Accepted.{Accepted, accepted}
+use Rattle.place.specs.Checked.{checkedAt}
 use Rattle.model.proofs.Raw.{layer-length}
 use Rattle.model.proofs.Position.{shift-bounded, row-never-negative}
 
@@ -36,50 +38,59 @@ module _ {A : Type 0} (wrap : Refusal → A) where
   handed true false x y r z = refl
   handed false b x y r z = refl
 
-  -- a call that begins with the tests of the form check answers as it does, or by the rest of its tests
-  as-checked : (c n m : ℕ) (xs : List ℕ) (rest : List Test) (z : A)
-      → firstMet wrap (badArgs (argsOk c n m (length xs)) ∷ badForm 0 c n m xs ∷ rest) z
-      ≡ carried (firstMet wrap rest z) (formAnswer c n m xs)
-  unfolding formAnswer
-  as-checked c n m xs rest z =
-      handed (argsOk c n m (length xs)) (breaksForm c n m xs) (refusal 1 0) (refusal 2 (0 + formPlace c n (entriesOf c m xs)))
-      (rowsAfter n (layerOf c m xs)) (firstMet wrap rest z)
+  -- a call whose first tests are those of a check answers as the check does, or by the rest of its tests
+  as-checked : (ok : Bool) (c n m : ℕ) (xs : List ℕ) (rest : List Test) (z : A)
+      → firstMet wrap (badArgs ok ∷ badForm 0 c n m xs ∷ rest) z
+      ≡ carried (firstMet wrap rest z) (firstMet Refused (badArgs ok ∷ badForm 0 c n m xs ∷ [])
+      (Done (rowsAfter n (layerOf c m xs))))
+  as-checked ok c n m xs rest z =
+      handed ok (breaksForm c n m xs) (refusal 1 0) (refusal 2 (0 + formPlace c n (entriesOf c m xs)))
+      (rowsAfter n (layerOf c m xs))
+      (firstMet wrap rest z)
 
-  -- the same of a position s, which is to be at most n
-  pub past-refused : (c n m : ℕ) (xs : List ℕ) (s : ℕ) (z : A) → n < s
-      → wrap (refusal 1 0) ≡ firstMet wrap (badArgs (argsOk c n m (length xs) && leb s n) ∷ badForm 0 c n m xs ∷ []) z
-  past-refused c n m xs s z h = rw (lt-leb s n h, and-false)
+-- the check with a position
+module _ (c n m : ℕ) (xs : List ℕ) (s : ℕ) where
+  pub check-past : n < s → Refused (refusal 1 0) ≡ checkedAt c n m xs s
+  unfolding checkedAt
+  check-past h = rw (lt-leb s n h, and-false)
 
-  pub at-checked : (c n m : ℕ) (xs : List ℕ) (s : ℕ) (z : A) → s ≤ n
-      → firstMet wrap (badArgs (argsOk c n m (length xs) && leb s n) ∷ badForm 0 c n m xs ∷ []) z
-      ≡ carried z (formAnswer c n m xs)
-  at-checked c n m xs s z h = rw (le-leb s n h, and-true) (as-checked c n m xs [] z)
+  pub check-within : s ≤ n → formAnswer c n m xs ≡ checkedAt c n m xs s
+  unfolding checkedAt formAnswer
+  check-within h = rw (le-leb s n h, and-true)
+
+  -- where it is done, the position is at most n, and the layer is accepted
+  pub done-at : {k : ℕ} → checkedAt c n m xs s ≡ Done k → (s ≤ n) × Accepted c n m xs k
+  done-at {k} e = go (leb s n) refl
+    where
+      go : (t : Bool) → leb s n ≡ t → (s ≤ n) × Accepted c n m xs k
+      go true f = let h : s ≤ n = leb-true s n f in (h, accepted c n m xs k (check-within h ∙ e))
+      go false f =
+          absurd
+          (let g = check-past (leb-false s n f) in
+          let z : _≡_ {A = ℕ} 0 1 = cc in
+          omega arith)
 
 -- the shift, the row number, and the way back
 module _ (c n m : ℕ) (xs : List ℕ) (s : ℕ) where
-  pub shift-past : n < s → shifted.Refused (refusal 1 0) ≡ shiftAnswer c n m xs s
-  unfolding shiftAnswer
-  shift-past h = past-refused shifted.Refused c n m xs s (shifted.By (shift (layerOf c m xs) s)) h
+  pub shift-checked : shiftAnswer c n m xs s ≡ carried shifted.Refused (shifted.By (shift (layerOf c m xs) s))
+      (checkedAt c n m xs s)
+  unfolding shiftAnswer checkedAt
+  shift-checked =
+      as-checked shifted.Refused (argsOk c n m (length xs) && leb s n) c n m xs [] (shifted.By (shift (layerOf c m xs) s))
 
-  pub shift-checked : s ≤ n → shiftAnswer c n m xs s ≡ carried shifted.Refused (shifted.By (shift (layerOf c m xs) s)) (formAnswer c n m xs)
-  unfolding shiftAnswer
-  shift-checked h = at-checked shifted.Refused c n m xs s (shifted.By (shift (layerOf c m xs) s)) h
-
-  pub row-past : n < s → Refused (refusal 1 0) ≡ rowAnswer c n m xs s
-  unfolding rowAnswer
-  row-past h = past-refused Refused c n m xs s (Done (rowOf (layerOf c m xs) s)) h
-
-  pub row-checked : s ≤ n → rowAnswer c n m xs s ≡ carried Refused (Done (rowOf (layerOf c m xs) s)) (formAnswer c n m xs)
-  unfolding rowAnswer
-  row-checked h = at-checked Refused c n m xs s (Done (rowOf (layerOf c m xs) s)) h
+  pub row-checked : rowAnswer c n m xs s ≡ carried Refused (Done (rowOf (layerOf c m xs) s)) (checkedAt c n m xs s)
+  unfolding rowAnswer checkedAt
+  row-checked = as-checked Refused (argsOk c n m (length xs) && leb s n) c n m xs [] (Done (rowOf (layerOf c m xs) s))
 
   pub back-checked : backAnswer c n m xs s
       ≡ carried backed.Refused
-      (cond (leb (rowsAfter n (layerOf c m xs)) s) (backed.Refused (refusal 5 0)) (originAnswer (back n (layerOf c m xs) s)))
+      (cond (leb (rowsAfter n (layerOf c m xs)) s) (backed.Refused (refusal 5 0))
+      (originAnswer (back n (layerOf c m xs) s)))
       (formAnswer c n m xs)
-  unfolding backAnswer
+  unfolding backAnswer formAnswer
   back-checked =
-      as-checked backed.Refused c n m xs (badRow n (layerOf c m xs) s ∷ []) (originAnswer (back n (layerOf c m xs) s))
+      as-checked backed.Refused (argsOk c n m (length xs)) c n m xs (badRow n (layerOf c m xs) s ∷ [])
+      (originAnswer (back n (layerOf c m xs) s))
 
 -- the shift of a layer is small, and takes a position to no negative row
 pub shift-small : (c m : ℕ) (xs : List ℕ) (s : ℕ) → Held c m xs → natAbs (shift (layerOf c m xs) s) ≤ 512
@@ -87,5 +98,6 @@ shift-small c m xs s h =
     leb-true (natAbs (shift (layerOf c m xs) s)) 512
     (shift-bounded (layerOf c m xs) s (omega (arith, layer-length c m xs, h .entries)))
 
-pub row-shown : (c n m : ℕ) (xs : List ℕ) (s : ℕ) → inOrder c n (layerOf c m xs) ≡ true → nonNeg (pos s +ℤ shift (layerOf c m xs) s) ≡ true
+pub row-shown : (c n m : ℕ) (xs : List ℕ) (s : ℕ) → inOrder c n (layerOf c m xs) ≡ true
+    → nonNeg (pos s +ℤ shift (layerOf c m xs) s) ≡ true
 row-shown c n m xs s o = ap nonNeg (sym (row-never-negative c n (layerOf c m xs) o s))

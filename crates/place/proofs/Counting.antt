@@ -1,16 +1,16 @@
 -- What holds at the head of the pass that counts the adds up to s and the strikes before s, and the ways on from there.
 -- Assumes nothing.
-use Prim.Native.Nat.{ℕ, suc, _+_, _*_, _-_, _≤_, _<_}
+use Prim.Native.Nat.{ℕ, _+_, _*_, _-_, _≤_, _<_}
 use native.Mathlib.Nat.{zero-add, sub-zero}
 use native.Mathlib.Omega.{arith}
-use mathlib.Core.Path.{_≡_, refl, sym, ap, _∙_}
-use mathlib.Core.Bool.{Bool, _&&_}
-use mathlib.Core.List.{List, [], _∷_, map}
+use mathlib.Core.Path.{_≡_, _∙_}
+use mathlib.Core.Bool.{_&&_}
+use mathlib.Core.List.{List, map}
 use lib.ListN.{length}
 use lib.Dec.{leb, ltb, eqb}
 use Rattle.order.specs.Lists.{one, count}
 use Rattle.order.proofs.Tests.{one-le}
-use Rattle.model.specs.Layer.{Edit, Layer}
+use Rattle.model.specs.Layer.{Layer}
 use Rattle.model.specs.Raw.{ADD, STRIKE, Held, entryAt, entriesAt, editOf, layerOf}
 use Rattle.model.specs.Position.{addUpTo, strikeBefore}
 use Rattle.model.proofs.Raw.{start, next, edits-step, edits-end}
@@ -42,7 +42,8 @@ begin c m xs s h = record {
 
 module _ {c m : ℕ} {xs : List ℕ} {s i from adds strikes : ℕ} (g : Counting c m xs s i from adds strikes) where
   pub onward : i < m
-      → Counting c m xs s (i + 1) (from + (c + 2)) (adds + one (eqb (entryAt c from xs .kind) ADD && leb (entryAt c from xs .pos) s))
+      → Counting c m xs s (i + 1) (from + (c + 2))
+      (adds + one (eqb (entryAt c from xs .kind) ADD && leb (entryAt c from xs .pos) s))
       (strikes + one (eqb (entryAt c from xs .kind) STRIKE && ltb (entryAt c from xs .pos) s))
   onward h = record {
     room = next c m i from (length xs) h (g .room);
@@ -50,7 +51,11 @@ module _ {c m : ℕ} {xs : List ℕ} {s i from adds strikes : ℕ} (g : Counting
     added = g .added ∙ rw (edits-step c m i from xs h, ← add-upto s (entryAt c from xs)) (omega arith);
     struck = g .struck ∙ rw (edits-step c m i from xs h, ← strike-before s (entryAt c from xs)) (omega arith);
     few-adds = omega (arith, g .few-adds, one-le (eqb (entryAt c from xs .kind) ADD && leb (entryAt c from xs .pos) s));
-    few-strikes = omega (arith, g .few-strikes, one-le (eqb (entryAt c from xs .kind) STRIKE && ltb (entryAt c from xs .pos) s));
+    few-strikes = omega (
+      arith,
+      g .few-strikes,
+      one-le (eqb (entryAt c from xs .kind) STRIKE && ltb (entryAt c from xs .pos) s),
+    );
   }
 
   pub end : m ≤ i → (adds ≡ count (addUpTo s) (layerOf c m xs)) × (strikes ≡ count (strikeBefore s) (layerOf c m xs))

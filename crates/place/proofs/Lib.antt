@@ -4,3 +4,4 @@ pub mod ByKind
 pub mod Counting
 pub mod Walking
 pub mod Answers
+pub mod Unique

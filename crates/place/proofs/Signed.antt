@@ -1,16 +1,16 @@
 -- Small numbers as signed integers of 64 bits: read back as they are, and their sums and differences fit.
 -- Assumes nothing.
-use Prim.Native.Nat.{ℕ, zero, suc, _+_, _-_, _≤_, _<_, _^_}
+use Prim.Native.Nat.{ℕ, zero, suc, _+_, _-_, _≤_, _^_}
 use native.Mathlib.Omega.{arith}
-use mathlib.Core.Path.{_≡_, refl, ap, _∙_}
+use mathlib.Core.Path.{_≡_, refl, ap}
 use mathlib.Core.Bool.{Bool, true, false, cond}
 use lib.Dec.{T, ltb}
 use lib.IntN.{ℤ, pos, negsuc, natAbs, subℕ, _+ℤ_, _-ℤ_}
-use lib.Signed.{mag, nonNeg, pos-natAbs}
+use lib.Signed.{nonNeg, pos-natAbs}
 use mir.Syntax.{w64}
 use mir.Val.{Fits, SFits, toZ, ofZ}
 use mir.Facts.{toZ-ofZ}
-use borrow.Author.Tests.{lt-ltb, le-ltb, ltb-true, ltb-false}
+use borrow.Author.Tests.{lt-ltb, le-ltb, ltb-true}
 
 -- a small number is read as itself
 pub read-small : (a : ℕ) → a ≤ 4096 → toZ w64 a ≡ pos a
@@ -73,5 +73,6 @@ module _ (s : ℕ) (d : ℤ) (hs : s ≤ 4096) (hd : natAbs d ≤ 512) where
       × Fits w64 (natAbs (toZ w64 (ofZ w64 (toZ w64 s +ℤ toZ w64 (ofZ w64 d)))))
   sum-row h = rw sum-read (rw h tt, record { fits = omega (arith, sum-small) })
 
-  pub row-read : nonNeg (pos s +ℤ d) ≡ true → pos (natAbs (toZ w64 (ofZ w64 (toZ w64 s +ℤ toZ w64 (ofZ w64 d))))) ≡ pos s +ℤ d
+  pub row-read : nonNeg (pos s +ℤ d) ≡ true → pos (natAbs (toZ w64 (ofZ w64 (toZ w64 s +ℤ toZ w64 (ofZ w64 d)))))
+      ≡ pos s +ℤ d
   row-read h = rw sum-read (pos-natAbs (pos s +ℤ d) (rw h tt))

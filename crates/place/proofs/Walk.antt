@@ -1,7 +1,6 @@
 -- The one pass over the entries finds what stands at a row: what is passed lies before it, what is left lies after it.
 -- Assumes nothing.
-use Prim.Native.Nat.{ℕ, zero, suc, _+_, _-_, _≤_, _<_}
-use native.Mathlib.Nat.{add-zero, zero-add}
+use Prim.Native.Nat.{ℕ, suc, _+_, _-_, _≤_, _<_}
 use native.Mathlib.Omega.{arith}
 use mathlib.Core.Path.{_≡_, refl, sym, ap, subst, _∙_}
 use mathlib.Core.Logic.{⊎-elim}
@@ -23,16 +22,25 @@ use mathlib.Core.List.{
 use lib.ListN.{length, length-append}
 use lib.Seq.{append-snoc, getD-append-seam, take-append-seam}
 use lib.Dec.{leb, ltb, eqb}
-use borrow.Author.Tests.{ltb-true, ltb-false, leb-true, eqb-true, eqb-false, lt-ltb, le-ltb, le-leb, lt-leb, eq-eqb, ne-eqb}
+use borrow.Author.Tests.{ltb-true, leb-true, eqb-true, lt-ltb, le-ltb, le-leb, lt-leb}
 use Rattle.order.specs.Lists.{one, any, count}
 use Rattle.order.proofs.Tests.{tests, and-l}
 use Rattle.order.proofs.Counts.{count-append, count-same, count-zero}
-use Rattle.order.proofs.Pairs.{AllPairs, Unbroken}
-use Rattle.model.specs.Layer.{Deed, Edit, at, add, strike, change, Layer, position, isAdd, isStrike, rowsAfter, strikesRow, struck}
+use Rattle.order.proofs.Pairs.{AllPairs}
+use Rattle.model.specs.Layer.{Deed, Edit, at, add, strike, change, Layer, position, isAdd, isStrike, rowsAfter, struck}
 use Rattle.model.specs.Form.{sound, follows, inOrder}
-use Rattle.model.specs.Position.{addUpTo, strikeBefore, rowOf, Origin, base, added, back}
+use Rattle.model.specs.Position.{addUpTo, strikeBefore, rowOf, base, added, back}
 use Rattle.model.proofs.Layer.{struck-none}
-use Rattle.model.proofs.Position.{formed, pairs-at, follows-pos, follows-strike, entryNo, rowOfEntry, base-row-back, added-back}
+use Rattle.model.proofs.Position.{
+  formed,
+  pairs-at,
+  follows-pos,
+  follows-strike,
+  entryNo,
+  rowOfEntry,
+  base-row-back,
+  added-back,
+}
 use Rattle.place.specs.Walk.{originFrom}
 
 -- an edit lies before what base row t shows
@@ -49,7 +57,8 @@ record Halfway (c n : ℕ) (L : Layer) (r : ℕ) (E M : Layer) (t : ℕ) : Type 
   lies : (e : Edit) → Mem e E → passed t e ≡ true
   comes : t + count isAdd E ≡ r + count isStrike E
 
-module _ (c n : ℕ) (L : Layer) (r : ℕ) (E M : Layer) (t : ℕ) (H : Halfway c n L r E M t) (left : (e : Edit) → Mem e M → t < position e) where
+module _ (c n : ℕ) (L : Layer) (r : ℕ) (E M : Layer) (t : ℕ) (H : Halfway c n L r E M t)
+    (left : (e : Edit) → Mem e M → t < position e) where
   adds-past : count (addUpTo t) L ≡ count isAdd E
   adds-past =
       ap (count (addUpTo t)) (H .split)
@@ -68,7 +77,12 @@ module _ (c n : ℕ) (L : Layer) (r : ℕ) (E M : Layer) (t : ℕ) (H : Halfway 
   strikes-past : count (strikeBefore t) L ≡ count isStrike E
   strikes-past =
       ap (count (strikeBefore t)) (H .split)
-      ∙ omega (arith, count-append (strikeBefore t) E M, count-same (strikeBefore t) isStrike E each, count-zero (strikeBefore t) M none)
+      ∙ omega (
+        arith,
+        count-append (strikeBefore t) E M,
+        count-same (strikeBefore t) isStrike E each,
+        count-zero (strikeBefore t) M none,
+      )
     where
       each : (e : Edit) → Mem e E → one (strikeBefore t e) ≡ one (isStrike e)
       each (at p (add w)) m = refl
@@ -89,7 +103,8 @@ module _ (c n : ℕ) (L : Layer) (r : ℕ) (E M : Layer) (t : ℕ) (H : Halfway 
     where
       apart : (p k : ℕ) → Mem (at p (strike k)) (E ++ M) → t ≡ p → ⊥
       apart p k m e =
-          ⊎-elim (λ w. omega (tests, H .lies (at p (strike k)) w)) (λ w. omega (arith, left (at p (strike k)) w)) (append-cases E m)
+          ⊎-elim (λ w. omega (tests, H .lies (at p (strike k)) w)) (λ w. omega (arith, left (at p (strike k)) w))
+          (append-cases E m)
 
       each : (p k : ℕ) → Mem (at p (strike k)) L → t ≡ p → ⊥
       each p k m = apart p k (rw (H .split) at m)
@@ -106,7 +121,8 @@ added-here c n L r E t row M H =
     ∙ ap (back n L) (ap (λ (K : Layer). rowOfEntry K (length E)) (H .split) ∙ number)
   where
     here-is : entryNo L (length E) ≡ at t (add row)
-    here-is = ap (λ (K : Layer). entryNo K (length E)) (H .split) ∙ getD-append-seam E (at t (add row)) M (at 0 (strike 0))
+    here-is = ap (λ (K : Layer). entryNo K (length E)) (H .split)
+        ∙ getD-append-seam E (at t (add row)) M (at 0 (strike 0))
 
     number : rowOfEntry (E ++ (at t (add row) ∷ M)) (length E) ≡ r
     number =
@@ -160,30 +176,41 @@ module _ (c n : ℕ) (L : Layer) (r : ℕ) where
   unfolding originFrom
   walks E [] t H =
       base-here c n L r E [] t H (λ e m. absurd (not-nil m))
-      (omega (arith, H .below, H .comes, ap (count isAdd) (H .split ∙ append-nil E), ap (count isStrike) (H .split ∙ append-nil E)))
+      (omega (
+        arith,
+        H .below,
+        H .comes,
+        ap (count isAdd) (H .split ∙ append-nil E),
+        ap (count isStrike) (H .split ∙ append-nil E),
+      ))
   walks E (at p d ∷ M) t H = step d H (λ t′ H′. walks (E ++ (at p d ∷ [])) M t′ H′)
     where
       before : (d : Deed) → Halfway c n L r E (at p d ∷ M) t → t < p → p ≤ n → base t ≡ back n L r
       before d H h k = base-here c n L r E (at p d ∷ M) t H (left-of E p d M t H h) (omega arith)
 
       step : (d : Deed) → Halfway c n L r E (at p d ∷ M) t
-          → ((t′ : ℕ) → Halfway c n L r (E ++ (at p d ∷ [])) M t′ → originFrom (length (E ++ (at p d ∷ []))) t′ M ≡ back n L r)
+          → ((t′ : ℕ) → Halfway c n L r (E ++ (at p d ∷ [])) M t′
+          → originFrom (length (E ++ (at p d ∷ []))) t′ M ≡ back n L r)
           → originFrom (length E) t (at p d ∷ M) ≡ back n L r
       step (add row) H rest = go (ltb t p) (eqb t p) refl refl
         where
           go : (u v : Bool) → ltb t p ≡ u → eqb t p ≡ v
               → cond u (base t) (cond v (added (length E)) (originFrom (suc (length E)) (t - 1) M)) ≡ back n L r
-          go true v e f = before (add row) H (ltb-true t p e) (leb-true p n (and-l (leb p n) (eqb (length row) c) (sound-next E (at p (add row)) M t H)))
-          go false true e f = added-here c n L r E t row M (subst (λ (q : ℕ). Halfway c n L r E (at q (add row) ∷ M) t) (sym (eqb-true t p f)) H)
+          go true v e f = before (add row) H (ltb-true t p e)
+              (leb-true p n (and-l (leb p n) (eqb (length row) c) (sound-next E (at p (add row)) M t H)))
+          go false true e f = added-here c n L r E t row M
+              (subst (λ (q : ℕ). Halfway c n L r E (at q (add row) ∷ M) t) (sym (eqb-true t p f)) H)
           go false false e f =
               ap (λ (k : ℕ). originFrom k (t - 1) M) (sym (more E (at p (add row))))
               ∙ rest (t - 1) (go-past c n L r E (at p (add row)) M t (t - 1) H
-              (λ y m. passed-by p (t - 1) row (omega tests) y (pairs-at E (at p (add row)) M (pairs E (at p (add row) ∷ M) t H) .0 y m))
+              (λ y m. passed-by p (t - 1) row (omega tests) y
+              (pairs-at E (at p (add row)) M (pairs E (at p (add row) ∷ M) t H) .0 y m))
               (omega tests) (omega tests))
       step (strike k) H rest = go (ltb t p) refl
         where
           go : (u : Bool) → ltb t p ≡ u → cond u (base t) (originFrom (suc (length E)) (suc t) M) ≡ back n L r
-          go true e = before (strike k) H (ltb-true t p e) (omega (arith, ltb-true p n (sound-next E (at p (strike k)) M t H)))
+          go true e = before (strike k) H (ltb-true t p e)
+              (omega (arith, ltb-true p n (sound-next E (at p (strike k)) M t H)))
           go false e =
               ap (λ (k : ℕ). originFrom k (suc t) M) (sym (more E (at p (strike k))))
               ∙ rest (suc t) (go-past c n L r E (at p (strike k)) M t (suc t) H
@@ -193,7 +220,11 @@ module _ (c n : ℕ) (L : Layer) (r : ℕ) where
           go : (u : Bool) → ltb t p ≡ u → cond u (base t) (originFrom (suc (length E)) t M) ≡ back n L r
           go true e =
               before (change j f) H (ltb-true t p e)
-              (omega (arith, ltb-true p n (and-l (ltb p n) (leb 1 j && ltb j c) (sound-next E (at p (change j f)) M t H))))
+              (omega (
+                arith,
+                ltb-true p n (and-l (ltb p n) (leb 1 j && ltb j c)
+                    (sound-next E (at p (change j f)) M t H)),
+              ))
           go false e =
               ap (λ (k : ℕ). originFrom k t M) (sym (more E (at p (change j f))))
               ∙ rest t (go-past c n L r E (at p (change j f)) M t t H (H .lies) (omega tests) (omega arith))

@@ -1,20 +1,19 @@
 -- What holds at the head of the pass back from a row number, and the ways on from there.
 -- Assumes nothing.
 use Prim.Native.Nat.{ℕ, suc, _+_, _*_, _-_, _≤_, _<_}
-use native.Mathlib.Nat.{zero-add, sub-zero}
+use native.Mathlib.Nat.{sub-zero}
 use native.Mathlib.Numerals.{add-one}
 use native.Mathlib.Omega.{arith}
-use mathlib.Core.Path.{_≡_, refl, sym, ap, _∙_}
-use mathlib.Core.Bool.{Bool, true, false, cond}
-use mathlib.Core.List.{List, [], _∷_, map}
+use mathlib.Core.Path.{_≡_, sym, ap, _∙_}
+use mathlib.Core.Bool.{true, cond}
+use mathlib.Core.List.{List}
 use lib.ListN.{length}
-use lib.Dec.{leb, ltb, eqb}
+use lib.Dec.{ltb, eqb}
 use borrow.Author.Tests.{lt-ltb, le-ltb, eq-eqb, ne-eqb}
-use Rattle.order.specs.Lists.{count}
 use Rattle.order.proofs.Counts.{count-le}
 use Rattle.model.specs.declared.Entry.{Entry}
-use Rattle.model.specs.Layer.{Edit, Layer, isAdd, rowsAfter}
-use Rattle.model.specs.Raw.{ADD, STRIKE, Held, entryAt, entriesAt, editOf, layerOf}
+use Rattle.model.specs.Layer.{Layer, isAdd, rowsAfter}
+use Rattle.model.specs.Raw.{ADD, STRIKE, Held, entryAt, layerOf}
 use Rattle.model.specs.Form.{inOrder}
 use Rattle.model.specs.Position.{base, added, back}
 use Rattle.model.proofs.Raw.{start, next, edits-step, edits-end, layer-length}
@@ -55,7 +54,8 @@ module _ {c n m : ℕ} {xs : List ℕ} {r i from t : ℕ} (g : Walking c n m xs 
     abbrev L : Layer
     L = editsLeft c m xs (i + 1) (from + (c + 2))
 
-    step : cond (ltb t (e .pos)) (base t) (cond (eqb (e .kind) ADD) (cond (eqb t (e .pos)) (added i) (originFrom (suc i) (t - 1) L))
+    step : cond (ltb t (e .pos)) (base t) (cond (eqb (e .kind) ADD)
+        (cond (eqb t (e .pos)) (added i) (originFrom (suc i) (t - 1) L))
         (cond (eqb (e .kind) STRIKE) (originFrom (suc i) (suc t) L) (originFrom (suc i) t L)))
         ≡ back n (layerOf c m xs) r
     step = sym (rw (edits-step c m i from xs h) (origin-step i t e L)) ∙ g .goes
@@ -69,7 +69,8 @@ module _ {c n m : ℕ} {xs : List ℕ} {r i from t : ℕ} (g : Walking c n m xs 
     here-added l k q = rw (le-ltb t (e .pos) l, eq-eqb (e .kind) ADD k, eq-eqb t (e .pos) q) at step
 
     -- the entry is passed, and leaves base row t′
-    past : (t′ : ℕ) → t′ ≤ suc t → originFrom (suc i) t′ L ≡ back n (layerOf c m xs) r → Walking c n m xs r (i + 1) (from + (c + 2)) t′
+    past : (t′ : ℕ) → t′ ≤ suc t → originFrom (suc i) t′ L ≡ back n (layerOf c m xs) r
+        → Walking c n m xs r (i + 1) (from + (c + 2)) t′
     past t′ b w = record {
       room = next c m i from (length xs) h (g .room);
       within = omega arith;
@@ -79,12 +80,17 @@ module _ {c n m : ℕ} {xs : List ℕ} {r i from t : ℕ} (g : Walking c n m xs 
     }
 
     pub past-add : e .pos ≤ t → e .kind ≡ ADD → (t ≡ e .pos → ⊥) → Walking c n m xs r (i + 1) (from + (c + 2)) (t - 1)
-    past-add l k q = past (t - 1) (omega arith) (rw (le-ltb t (e .pos) l, eq-eqb (e .kind) ADD k, ne-eqb t (e .pos) q) at step)
+    past-add l k q = past (t - 1) (omega arith)
+        (rw (le-ltb t (e .pos) l, eq-eqb (e .kind) ADD k, ne-eqb t (e .pos) q) at step)
 
-    pub past-strike : e .pos ≤ t → (e .kind ≡ ADD → ⊥) → e .kind ≡ STRIKE → Walking c n m xs r (i + 1) (from + (c + 2)) (t + 1)
+    pub past-strike : e .pos ≤ t → (e .kind ≡ ADD → ⊥) → e .kind ≡ STRIKE
+        → Walking c n m xs r (i + 1) (from + (c + 2)) (t + 1)
     past-strike l k q =
         past (t + 1) (omega arith)
-        (ap (λ (k : ℕ). originFrom (suc i) k L) (add-one t) ∙ rw (le-ltb t (e .pos) l, ne-eqb (e .kind) ADD k, eq-eqb (e .kind) STRIKE q) at step)
+        (ap (λ (k : ℕ). originFrom (suc i) k L) (add-one t)
+        ∙ rw (le-ltb t (e .pos) l, ne-eqb (e .kind) ADD k, eq-eqb (e .kind) STRIKE q) at step)
 
-    pub past-change : e .pos ≤ t → (e .kind ≡ ADD → ⊥) → (e .kind ≡ STRIKE → ⊥) → Walking c n m xs r (i + 1) (from + (c + 2)) t
-    past-change l k q = past t (omega arith) (rw (le-ltb t (e .pos) l, ne-eqb (e .kind) ADD k, ne-eqb (e .kind) STRIKE q) at step)
+    pub past-change : e .pos ≤ t → (e .kind ≡ ADD → ⊥) → (e .kind ≡ STRIKE → ⊥)
+        → Walking c n m xs r (i + 1) (from + (c + 2)) t
+    past-change l k q = past t (omega arith) (rw
+        (le-ltb t (e .pos) l, ne-eqb (e .kind) ADD k, ne-eqb (e .kind) STRIKE q) at step)

@@ -1,4 +1,4 @@
--- The way back in one pass over the entries: a row number turns into a base position as the adds and strikes before it are passed.
+-- The way back in one pass: a row number turns into a base position as the adds and strikes before it are passed.
 use mathlib.Core.Bool.{cond}
 use mathlib.Core.List.{[], _∷_}
 use Prim.Native.Nat.{ℕ, suc, _-_}

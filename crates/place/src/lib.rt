@@ -14,6 +14,7 @@ ghost use Rattle.model.specs.Layer.{rowsAfter};
 ghost use Rattle.model.specs.Raw.{Held, layerOf};
 ghost use Rattle.model.specs.Form.{inOrder};
 ghost use Rattle.model.specs.Position.{addUpTo, strikeBefore, shift, rowOf, back};
+ghost use Rattle.place.specs.Checked.{checkedAt};
 ghost use Rattle.model.specs.Calls.{originAnswer, shiftAnswer, rowAnswer, backAnswer};
 
 // By how much a passes b, below zero where it does not.
@@ -113,26 +114,9 @@ fn row_at(c: usize, n: usize, m: usize, layer: &[u64], s: usize) -> usize
     shifted(s, shift_at(c, m, layer, s))
 }
 
-// The shift at base position s, 0 to n: adds up to and including s, less strikes before s.
-pub fn shift(c: usize, n: usize, m: usize, layer: &[u64], s: usize) -> Shifted
-    ensures { λ r. ⌜ r ≡ shiftAnswer c n m (now (layer .entry)) s ⌝ }
-{
-    if n < s {
-        return Shifted::Refused(Refusal {
-            number: 1,
-            place: 0,
-        });
-    }
-    let f = form::check(c, n, m, layer);
-    match f {
-        Answer::Done(_) => Shifted::By(shift_at(c, m, layer, s)),
-        Answer::Refused(x) => Shifted::Refused(x),
-    }
-}
-
-// The row number of base position s, 0 to n: of a struck row that of the next shown row, or the row count if none follows.
-pub fn row(c: usize, n: usize, m: usize, layer: &[u64], s: usize) -> Answer
-    ensures { λ r. ⌜ r ≡ rowAnswer c n m (now (layer .entry)) s ⌝ }
+// The check of the layer, and of a base position s, which is at most n.
+fn check_at(c: usize, n: usize, m: usize, layer: &[u64], s: usize) -> Answer
+    ensures { λ r. ⌜ r ≡ checkedAt c n m (now (layer .entry)) s ⌝ }
 {
     if n < s {
         return Answer::Refused(Refusal {
@@ -140,7 +124,25 @@ pub fn row(c: usize, n: usize, m: usize, layer: &[u64], s: usize) -> Answer
             place: 0,
         });
     }
-    let f = form::check(c, n, m, layer);
+    form::check(c, n, m, layer)
+}
+
+// The shift at base position s, 0 to n: adds up to and including s, less strikes before s.
+pub fn shift(c: usize, n: usize, m: usize, layer: &[u64], s: usize) -> Shifted
+    ensures { λ r. ⌜ r ≡ shiftAnswer c n m (now (layer .entry)) s ⌝ }
+{
+    let f = check_at(c, n, m, layer, s);
+    match f {
+        Answer::Done(_) => Shifted::By(shift_at(c, m, layer, s)),
+        Answer::Refused(x) => Shifted::Refused(x),
+    }
+}
+
+// The row number of base position s, 0 to n: for a struck row that of the next shown row, or the row count.
+pub fn row(c: usize, n: usize, m: usize, layer: &[u64], s: usize) -> Answer
+    ensures { λ r. ⌜ r ≡ rowAnswer c n m (now (layer .entry)) s ⌝ }
+{
+    let f = check_at(c, n, m, layer, s);
     match f {
         Answer::Done(_) => Answer::Done(row_at(c, n, m, layer, s)),
         Answer::Refused(x) => Answer::Refused(x),

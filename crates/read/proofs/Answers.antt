@@ -3,23 +3,19 @@
 use Prim.Native.Nat.{ℕ, _≤_, _<_}
 use native.Mathlib.Omega.{arith}
 use mathlib.Core.Path.{_≡_, refl, sym, ap, _∙_}
-use mathlib.Core.Bool.{Bool, true, false, not, cond, _&&_, _||_, and-false}
+use mathlib.Core.Bool.{Bool, true, false, not, cond, _&&_, and-false}
 use mathlib.Core.List.{List}
-use lib.ListN.{length, getD}
-use lib.Dec.{ltb, eqb}
-use borrow.Author.Tests.{lt-ltb, le-ltb, ltb-true, ltb-false, eqb-true, eq-eqb, ne-eqb}
-use Rattle.order.specs.Lists.{any}
-use Rattle.order.proofs.Tests.{eqb-sym}
+use lib.ListN.{length}
+use lib.Dec.{ltb}
+use borrow.Author.Tests.{lt-ltb, le-ltb, ltb-true, ltb-false}
 use Rattle.model.specs.declared.Refusal.{Refusal}
-use Rattle.model.specs.declared.Entry.{Entry}
 use Rattle.model.specs.declared.Answer.{Answer}
 use Rattle.model.specs.declared.Answer.the-variants.{Done, Refused}
 use Rattle.model.specs.Layer.{rowsAfter}
-use Rattle.model.specs.Raw.{ADD, STRIKE, editOf, entriesOf, layerOf}
-use Rattle.model.specs.Form.{argsOk, formPlace}
-use Rattle.model.specs.Read.{touches, wholeBase, bufferFront, emptyBase}
+use Rattle.model.specs.Raw.{layerOf}
+use Rattle.model.specs.Form.{argsOk}
 use Rattle.model.specs.Refusals.{refusal, breaksForm}
-use Rattle.model.specs.Calls.{formAnswer, shownColumn, readAnswer, viewPart}
+use Rattle.model.specs.Calls.{formAnswer, shownColumn, readAnswer}
 use Rattle.form.proofs.Accepted.{Accepted, accepted}
 use Rattle.read.specs.Runs.{Readable}
 use Rattle.read.proofs.Ready.{ready}
@@ -104,31 +100,3 @@ module _ (c m : ℕ) (raw xs : List ℕ) (j len : ℕ) where
       by : (b : Bool) → ltb j c ≡ b → Finished k
       by true t = done-of (formAnswer c (length xs) m raw) (ltb-true j c t) refl k d
       by false t = absurd (let q = column-refused (ltb-false j c t) in let z : _≡_ {A = ℕ} 0 1 = cc in omega arith)
-
--- what the viewer gets, from the answer of the read
-module _ (c m : ℕ) (raw xs : List ℕ) (j len : ℕ) where
-  pub front-viewed : (k : ℕ) → readAnswer c m raw xs j len ≡ Done k → any (touches j) (layerOf c m raw) ≡ true
-      → viewPart c m raw xs j len ≡ bufferFront k
-  unfolding viewPart
-  front-viewed k e t = rw (e, t)
-
-  pub base-viewed : (k : ℕ) → readAnswer c m raw xs j len ≡ Done k → any (touches j) (layerOf c m raw) ≡ false
-      → viewPart c m raw xs j len ≡ wholeBase
-  unfolding viewPart
-  base-viewed k e t = rw (e, t)
-
-  pub none-viewed : (x : Refusal) → readAnswer c m raw xs j len ≡ Refused x → viewPart c m raw xs j len ≡ emptyBase
-  unfolding viewPart
-  none-viewed x e = rw e
-
--- an entry shows in column j by its kind: an add, a strike, a change of column j
-abbrev pub shows : ℕ → ℕ → Bool
-shows j kind = eqb kind ADD || (eqb kind STRIKE || eqb kind j)
-
-pub shows-kind : (j : ℕ) (e : Entry) → shows j (e .kind) ≡ touches j (editOf e)
-shows-kind j e = by (eqb (e .kind) ADD) (eqb (e .kind) STRIKE) refl refl
-  where
-    by : (a b : Bool) → eqb (e .kind) ADD ≡ a → eqb (e .kind) STRIKE ≡ b → shows j (e .kind) ≡ touches j (editOf e)
-    by true b p q = rw p
-    by false true p q = rw (p, q)
-    by false false p q = rw (p, q) (eqb-sym (e .kind) j)

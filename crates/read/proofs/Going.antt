@@ -1,38 +1,34 @@
 -- The state of the loop that reads a column, and what each kind of entry does to it.
 -- Assumes nothing.
-use Prim.Native.Nat.{ℕ, suc, _+_, _*_, _-_, _≤_, _<_}
+use Prim.Native.Nat.{ℕ, _+_, _*_, _-_, _≤_, _<_}
 use native.Mathlib.Numerals.{add-one}
 use native.Mathlib.Nat.{sub-zero}
 use native.Mathlib.Omega.{arith}
 use mathlib.Core.Path.{_≡_, refl, sym, ap, subst, _∙_}
-use mathlib.Core.Bool.{true, false}
-use mathlib.Core.List.{List, [], _∷_, _++_, map, append-nil}
-use lib.ListN.{length, getD, take, drop}
+use mathlib.Core.Bool.{false}
+use mathlib.Core.List.{List, [], _∷_, _++_, append-nil}
+use lib.ListN.{length, getD, drop}
 use lib.Seq.{slice, append-snoc, take-length}
 use lib.Dec.{eqb}
 use borrow.Author.Tests.{eq-eqb, ne-eqb}
-use Rattle.model.specs.declared.Entry.{Entry}
 use Rattle.model.specs.Cell.{to}
 use Rattle.model.specs.Layer.{add, strike, change, Edit, at, Layer}
-use Rattle.model.specs.Raw.{ADD, STRIKE, entryAt, entriesAt, editOf, layerOf}
+use Rattle.model.specs.Raw.{ADD, STRIKE, entryAt, editOf, layerOf}
 use Rattle.model.specs.Read.{readColumn}
 use Rattle.model.proofs.Raw.{start, here, next, edits-step, edits-end}
-use Rattle.read.specs.Runs.{runsFrom, Wrote, Ready, Readable}
-use Rattle.read.proofs.Writing.{Front, room, wrote-none, front-more, front-end}
+use Rattle.read.specs.Runs.{editsFrom, runsFrom, Wrote, Ready, Readable}
+use Rattle.read.proofs.Writing.{Front, room, front-more, front-end}
 use Rattle.read.proofs.Same.{same}
 use Rattle.read.proofs.Rows.{rows-shown}
-
--- the edits from entry i on, which stands from `from`
-abbrev left : ℕ → ℕ → ℕ → ℕ → List ℕ → Layer
-left c m i from raw = map editOf (entriesAt c (m - i) from raw)
 
 -- entry i stands from `from`, base row s is next, and o numbers are written
 pub record Going (c m : ℕ) (raw xs : List ℕ) (j : ℕ) (out₀ : List ℕ) (i from s o : ℕ) (out : List ℕ) : Type 0 where
   pub fits : length (runsFrom j 0 xs (layerOf c m raw)) ≤ length out₀
   pub space : from + (m - i) * (c + 2) ≤ length raw
   pub upto : i ≤ m
-  pub ready : Ready j (length xs) s (map editOf (entriesAt c (m - i) from raw))
-  pub front : Front (runsFrom j 0 xs (layerOf c m raw)) out₀ o out (runsFrom j s xs (map editOf (entriesAt c (m - i) from raw)))
+  pub ready : Ready j (length xs) s (editsFrom c m i from raw)
+  pub front :
+      Front (runsFrom j 0 xs (layerOf c m raw)) out₀ o out (runsFrom j s xs (editsFrom c m i from raw))
 
 -- what the code has read of the entry
 pub record Met (c j : ℕ) (raw : List ℕ) (from p kind first own : ℕ) : Type 0 where
@@ -43,15 +39,15 @@ pub record Met (c j : ℕ) (raw : List ℕ) (from p kind first own : ℕ) : Type
 
 -- the entry shows the numbers ys, and base row t is next
 pub record Shows (c m : ℕ) (raw xs : List ℕ) (j : ℕ) (out₀ : List ℕ) (i from o : ℕ) (out ys : List ℕ) (t : ℕ) : Type 0 where
-  pub ready : Ready j (length xs) t (map editOf (entriesAt c (m - (i + 1)) (from + (c + 2)) raw))
+  pub ready : Ready j (length xs) t (editsFrom c m (i + 1) (from + (c + 2)) raw)
   pub front :
       Front (runsFrom j 0 xs (layerOf c m raw)) out₀ o out
-      (ys ++ runsFrom j t xs (map editOf (entriesAt c (m - (i + 1)) (from + (c + 2)) raw)))
+      (ys ++ runsFrom j t xs (editsFrom c m (i + 1) (from + (c + 2)) raw))
 
 module _ {c m : ℕ} {raw xs : List ℕ} {j : ℕ} {out₀ : List ℕ} {i from s o : ℕ} {out : List ℕ}
     (g : Going c m raw xs j out₀ i from s o out) (h : i < m) where
   abbrev es : Layer
-  es = left c m (i + 1) (from + (c + 2)) raw
+  es = editsFrom c m (i + 1) (from + (c + 2)) raw
 
   pub near : from + (c + 2) ≤ length raw
   near = here c m i from (length raw) h (g .space)
@@ -67,30 +63,33 @@ module _ {c m : ℕ} {raw xs : List ℕ} {j : ℕ} {out₀ : List ℕ} {i from s
   }
 
   pub fitting : {ys : List ℕ} {t : ℕ} → Shows c m raw xs j out₀ i from o out ys t → o + length ys ≤ length out
-  fitting {ys} {t} w = room _ out ys (runsFrom j t xs es) o (w .front .split) (omega (arith, g .fits, w .front .size)) (w .front .done)
+  fitting {ys} {t} w =
+      let f = w .front in
+      room _ out ys (runsFrom j t xs es) o (f .split) (omega (arith, g .fits, f .size)) (f .done)
 
   -- the edit that the entry is
-  abbrev First : Edit → Type 0
-  First e = Ready j (length xs) s (e ∷ es) × Front (runsFrom j 0 xs (layerOf c m raw)) out₀ o out (runsFrom j s xs (e ∷ es))
+  abbrev Next : Layer → Type 0
+  Next L = Ready j (length xs) s L × Front (runsFrom j 0 xs (layerOf c m raw)) out₀ o out (runsFrom j s xs L)
 
-  entry : (e : Edit) → editOf (entryAt c from raw) ≡ e → First e
+  entry : (e : Edit) → editOf (entryAt c from raw) ≡ e → Next (e ∷ es)
   entry e q =
-      let w : left c m i from raw ≡ e ∷ es = edits-step c m i from raw h ∙ ap (λ (d : Edit). d ∷ es) q in
-      (subst (Ready j (length xs) s) w (g .ready), subst (λ (l : Layer). Front (runsFrom j 0 xs (layerOf c m raw)) out₀ o out (runsFrom j s xs l)) w (g .front))
+      let w : editsFrom c m i from raw ≡ e ∷ es = edits-step c m i from raw h ∙ ap (λ (d : Edit). d ∷ es) q in
+      subst Next w (g .ready, g .front)
 
   module _ {p kind first own : ℕ} (w : Met c j raw from p kind first own) where
     pub on-add : kind ≡ ADD → (s ≤ p) × (p ≤ length xs) × Shows c m raw xs j out₀ i from o out (slice s p xs ++ (own ∷ [])) p
     unfolding Ready runsFrom
     on-add k =
-        let f = entry (at (entryAt c from raw .pos) (add (entryAt c from raw .vals))) (rw (eq-eqb _ ADD (sym (w .kind-is) ∙ k))) in
+        let q : entryAt c from raw .kind ≡ ADD = sym (w .kind-is) ∙ k in
+        let f = entry (at (entryAt c from raw .pos) (add (entryAt c from raw .vals))) (rw q) in
         rw (w .pos-is, w .own-is)
         (f .0 .0, f .0 .1, record { ready = f .0 .2; front = rw append-snoc (f .1) })
 
-    pub on-strike : (kind ≡ ADD → ⊥) → kind ≡ STRIKE → (s ≤ p) × (p < length xs) × Shows c m raw xs j out₀ i from o out (slice s p xs) (p + 1)
+    pub on-strike : kind ≡ STRIKE → (s ≤ p) × (p < length xs) × Shows c m raw xs j out₀ i from o out (slice s p xs) (p + 1)
     unfolding Ready runsFrom
-    on-strike na k =
+    on-strike k =
         let q : entryAt c from raw .kind ≡ STRIKE = sym (w .kind-is) ∙ k in
-        let f = entry (at (entryAt c from raw .pos) (strike (getD (entryAt c from raw .vals) 0 0))) (rw (q)) in
+        let f = entry (at (entryAt c from raw .pos) (strike (getD (entryAt c from raw .vals) 0 0))) (rw q) in
         rw (w .pos-is, add-one)
         (f .0 .0, f .0 .1, record { ready = f .0 .2; front = f .1 })
 
@@ -117,10 +116,13 @@ module _ {c m : ℕ} {raw xs : List ℕ} {j : ℕ} {out₀ : List ℕ} {i from s
         record { ready = f .0 .1 n; front = rw n at (f .1) }
 
 -- at the loop's start
-pub set-out : {c m : ℕ} {raw xs : List ℕ} {j : ℕ} {out : List ℕ} → Readable c m raw xs j (length out) → Going c m raw xs j out 0 0 0 0 out
+pub set-out : {c m : ℕ} {raw xs : List ℕ} {j : ℕ} {out : List ℕ} → Readable c m raw xs j (length out)
+    → Going c m raw xs j out 0 0 0 0 out
 unfolding layerOf
 set-out {c} {m} {raw} {xs} {j} {out} r = record {
-  fits = omega (arith, ap length (same j xs (layerOf c m raw) (r .ready)), rows-shown j xs (layerOf c m raw) (r .ready), r .room);
+  fits =
+      let L = layerOf c m raw in
+      omega (arith, ap length (same j xs L (r .ready)), rows-shown j xs L (r .ready), r .room);
   space = start c m (length raw) (r .held .room);
   upto = omega arith;
   ready = rw sub-zero (r .ready);
@@ -137,16 +139,18 @@ module _ {c m : ℕ} {raw xs : List ℕ} {j : ℕ} {out₀ : List ℕ} {i from s
   last-front : Front (runsFrom j 0 xs (layerOf c m raw)) out₀ o out (slice s (length xs) xs ++ [])
   unfolding runsFrom
   last-front =
-      let e : runsFrom j s xs (left c m i from raw) ≡ slice s (length xs) xs ++ [] =
+      let e : runsFrom j s xs (editsFrom c m i from raw) ≡ slice s (length xs) xs ++ [] =
       ap (runsFrom j s xs) (edits-end c m i from raw h) ∙ rw (take-length xs) (sym (append-nil (drop s xs))) in
       subst (λ (l : List ℕ). Front (runsFrom j 0 xs (layerOf c m raw)) out₀ o out l) e (g .front)
 
   pub last-room : o + length (slice s (length xs) xs) ≤ length out
-  last-room = room _ out (slice s (length xs) xs) [] o (last-front .split) (omega (arith, g .fits, g .front .size)) (g .front .done)
+  last-room =
+      let f = last-front in
+      room _ out (slice s (length xs) xs) [] o (f .split) (omega (arith, g .fits, f .size)) (f .done)
 
   pub ended : {r : ℕ} {new : List ℕ} → Readable c m raw xs j (length out₀) → Wrote (slice s (length xs) xs) out o r new
-      → (length new ≡ length out₀) × (r ≡ length (readColumn j xs (layerOf c m raw)))
-      × (new ≡ readColumn j xs (layerOf c m raw) ++ drop (length (readColumn j xs (layerOf c m raw))) out₀)
+      → let t = readColumn j xs (layerOf c m raw) in
+      (length new ≡ length out₀) × (r ≡ length t) × (new ≡ t ++ drop (length t) out₀)
   ended {r} {new} a w =
       let f = front-more _ out₀ out new (slice s (length xs) xs) [] o r (g .fits) last-front w in
       let e = front-end _ out₀ new r f in

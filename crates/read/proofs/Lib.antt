@@ -4,3 +4,6 @@ pub mod Ready
 pub mod Writing
 pub mod Going
 pub mod Answers
+pub mod Shows
+pub mod Viewing
+pub mod Unique

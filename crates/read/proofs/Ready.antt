@@ -4,8 +4,8 @@ use Prim.Native.Nat.{ℕ, suc, _≤_, _<_}
 use native.Mathlib.Omega.{arith}
 use mathlib.Core.Path.{_≡_, refl, sym}
 use mathlib.Core.Logic.{⊎-elim}
-use mathlib.Core.Bool.{Bool, true, false, true≢false}
-use mathlib.Core.List.{List, [], _∷_, List·Memᴰ as Mem, List·Memᴰ·head as here, List·Memᴰ·tail as next}
+use mathlib.Core.Bool.{true, false, true≢false}
+use mathlib.Core.List.{[], _∷_, List·Memᴰ as Mem, List·Memᴰ·head as here, List·Memᴰ·tail as next}
 use lib.Dec.{eqb, ltb, leb}
 use borrow.Author.Tests.{ltb-true, leb-true, eqb-true}
 use Rattle.order.proofs.Tests.{and-l, lex-cases}

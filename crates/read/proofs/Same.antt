@@ -4,12 +4,12 @@ use Prim.Native.Nat.{ℕ, zero, suc, _+_, _-_, _≤_, _<_}
 use native.Mathlib.Nat.{add-zero}
 use native.Mathlib.Omega.{arith}
 use mathlib.Core.Path.{_≡_, refl, sym, ap, subst, _∙_}
-use mathlib.Core.Bool.{Bool, true, false, cond, _&&_, _||_, and-false}
-use mathlib.Core.List.{List, [], _∷_, _++_, map}
-use lib.ListN.{length, getD, take, drop, drop-of-length-le}
+use mathlib.Core.Bool.{Bool, true, false, cond, and-false}
+use mathlib.Core.List.{List, [], _∷_, _++_}
+use lib.ListN.{length, getD, drop}
 use lib.Seq.{slice, slice-empty, slice-cons, drop-cons}
-use lib.Dec.{eqb, ltb}
-use borrow.Author.Tests.{eq-eqb, ne-eqb, eqb-true, eqb-false}
+use lib.Dec.{eqb}
+use borrow.Author.Tests.{eq-eqb, ne-eqb}
 use Rattle.model.specs.Row.{Row, cell, column}
 use Rattle.model.specs.Cell.{CellEdit, done}
 use Rattle.model.specs.Layer.{
@@ -28,7 +28,7 @@ use Rattle.model.specs.Layer.{
   struck,
   changedCell,
 }
-use Rattle.model.specs.Read.{unless, through, readColumnFrom, readColumn, touches}
+use Rattle.model.specs.Read.{readColumnFrom, readColumn, touches}
 use Rattle.read.specs.Runs.{runsFrom, Ready}
 
 -- the edit says nothing of column j at p

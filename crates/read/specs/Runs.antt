@@ -1,15 +1,19 @@
 -- A column as a reader of entries meets it: the run of base rows before an entry, then what the entry shows.
 use mathlib.Core.Path.{_≡_}
-use mathlib.Core.Bool.{Bool, true, false, cond}
-use mathlib.Core.List.{List, [], _∷_, _++_}
-use Prim.Native.Nat.{ℕ, suc, _+_, _≤_, _<_}
+use mathlib.Core.Bool.{true, false, cond}
+use mathlib.Core.List.{List, [], _∷_, _++_, map}
+use Prim.Native.Nat.{ℕ, suc, _+_, _-_, _≤_, _<_}
 use lib.ListN.{length, getD, drop}
 use lib.Seq.{slice, paste}
 use lib.Dec.{eqb}
 use Rattle.model.specs.Row.{cell}
 use Rattle.model.specs.Cell.{done}
-use Rattle.model.specs.Layer.{add, strike, change, Edit, at, Layer, rowsAfter}
-use Rattle.model.specs.Raw.{Held, layerOf}
+use Rattle.model.specs.Layer.{add, strike, change, at, Layer, rowsAfter}
+use Rattle.model.specs.Raw.{Held, entriesAt, editOf, layerOf}
+
+-- the edits from entry i of m on, which stands from `from`
+abbrev pub editsFrom : ℕ → ℕ → ℕ → ℕ → List ℕ → Layer
+editsFrom c m i from raw = map editOf (entriesAt c (m - i) from raw)
 
 -- column j from base row s on; a change of another column does not end the run
 unfoldable pub runsFrom : ℕ → ℕ → List ℕ → Layer → List ℕ
@@ -32,7 +36,8 @@ Ready j n s (at p (strike k) ∷ L) = (s ≤ p) × (p < n) × Ready j n (suc p) 
 Ready j n s (at p (change i e) ∷ L) =
     (eqb j i ≡ true → (s ≤ p) × (p < n) × Ready j n (suc p) L) × (eqb j i ≡ false → Ready j n s L)
 
--- what the reader of a column asks: the layer's slice, a column number below c, a layer ready to be read, and room in a buffer of len numbers
+-- what the reader of a column asks: the layer's slice, a column number below c, a layer ready to be read, and a buffer of
+-- len numbers that holds the rows
 pub record Readable (c m : ℕ) (raw xs : List ℕ) (j len : ℕ) : Type 0 where
   pub held : Held c m raw
   pub column : j < c

@@ -10,9 +10,9 @@ ghost use lib.Seq.{slice};
 ghost use Rattle.order.specs.Lists.{any};
 ghost use Rattle.model.specs.Raw.{Held, layerOf};
 ghost use Rattle.model.specs.Read.{touches};
-ghost use Rattle.model.specs.Calls.{shownColumn, readAnswer, written, viewPart, partNumbers};
+ghost use Rattle.model.specs.Calls.{shownColumn, readAnswer, written, viewPart};
 ghost use Rattle.read.specs.Runs.{Wrote, Readable};
-ghost use Rattle.read.specs.View.{InPlace, seenAs, seenNumber, seenValue};
+ghost use Rattle.read.specs.View.{Handed, seenAs, seenNumber, seenValue};
 
 // Shows the base rows from s up to p: writes them to the buffer from o on, and returns the index after the last.
 fn show_rows(base: &[u64], s: usize, p: usize, out: &mut [u64], o: usize) -> usize
@@ -62,10 +62,10 @@ pub fn read_part(
             s = p;
         } else if kind == Entry::STRIKE {
             o = show_rows(base, s, p, out, o);
-            s = p + 1;
+            s = p + 1; // past the struck row
         } else if kind == j as u64 {
             o = show_rows_and(base, s, p, first, out, o);
-            s = p + 1;
+            s = p + 1; // past the changed row
         }
     }
     show_rows(base, s, base.len(), out, o)
@@ -126,35 +126,12 @@ fn touched(c: usize, m: usize, layer: &[u64], j: usize) -> bool
     false
 }
 
-// After the read: the base column itself where the layer does not show in column j, else the filled front of the buffer.
-// Where reading is refused, an empty part of the base column.
-pub fn view<'a>(
-    c: usize,
-    m: usize,
-    layer: &[u64],
-    base: &'a [u64],
-    j: usize,
-    out: &'a [u64],
-) -> &'a [u64]
-    ensures { λ r. ⌜ (now r ≡ partNumbers (now (base .entry)) (now (out .entry)) (viewPart c m (now (layer .entry)) (now (base .entry)) j (length (now (out .entry)))))
-        × InPlace (base .entry) (out .entry) (viewPart c m (now (layer .entry)) (now (base .entry)) j (length (now (out .entry)))) r ⌝ }
-{
-    let a = answer(c, m, layer, base, j, out.len());
-    match a {
-        Answer::Done(rows) => {
-            if touched(c, m, layer, j) {
-                return &out[..rows];
-            }
-            base
-        }
-        Answer::Refused(_) => &base[..0],
-    }
-}
-
-// What the viewer hands back, as a number: so many numbers of the base column, or of the front of the buffer.
+// What the viewer hands back, without its reference: all numbers of the base column, so many of the front of the buffer,
+// or nothing, where reading is refused.
 pub enum Seen {
     Base(usize),
     Front(usize),
+    Nothing,
 }
 
 impl Seen {
@@ -165,6 +142,7 @@ impl Seen {
         match self {
             Seen::Base(_) => 0,
             Seen::Front(_) => 1,
+            Seen::Nothing => 0,
         }
     }
 
@@ -175,13 +153,15 @@ impl Seen {
         match self {
             Seen::Base(k) => k,
             Seen::Front(k) => k,
+            Seen::Nothing => 0,
         }
     }
 }
 
-// The view without its reference, for a buffer of len numbers.
+// What the viewer hands back after the read into a buffer of len numbers.
 pub fn view_part(c: usize, m: usize, layer: &[u64], base: &[u64], j: usize, len: usize) -> Seen
-    ensures { λ r. ⌜ r ≡ seenAs (length (now (base .entry))) (viewPart c m (now (layer .entry)) (now (base .entry)) j len) ⌝ }
+    ensures { λ r. ⌜ r ≡ seenAs (length (now (base .entry)))
+        (viewPart c m (now (layer .entry)) (now (base .entry)) j len) ⌝ }
 {
     let a = answer(c, m, layer, base, j, len);
     match a {
@@ -191,6 +171,27 @@ pub fn view_part(c: usize, m: usize, layer: &[u64], base: &[u64], j: usize, len:
             }
             Seen::Base(base.len())
         }
-        Answer::Refused(_) => Seen::Base(0),
+        Answer::Refused(_) => Seen::Nothing,
+    }
+}
+
+// After the read: the base column itself where the layer does not show in column j, else the filled front of the buffer.
+// Where reading is refused, an empty part of the base column.
+pub fn view<'a>(
+    c: usize,
+    m: usize,
+    layer: &[u64],
+    base: &'a [u64],
+    j: usize,
+    out: &'a [u64],
+) -> &'a [u64]
+    ensures { λ r. ⌜ Handed (base .entry) (out .entry)
+        (viewPart c m (now (layer .entry)) (now (base .entry)) j (length (now (out .entry)))) r ⌝ }
+{
+    let p = view_part(c, m, layer, base, j, out.len());
+    match p {
+        Seen::Base(_) => base,
+        Seen::Front(rows) => &out[..rows],
+        Seen::Nothing => &base[..0],
     }
 }

@@ -1,30 +1,14 @@
 -- The laws of a run pasted into a list: one more number of it, what stands before and after it, and a run behind another.
 -- Assumes nothing.
-use Prim.Native.Nat.{ℕ, zero, suc, _+_, _-_, _≤_, _<_}
+use Prim.Native.Nat.{ℕ, suc, _+_, _-_, _≤_, _<_}
 use native.Mathlib.Numerals.{add-one}
 use native.Mathlib.Nat.{add-assoc, zero-add}
 use native.Mathlib.Omega.{arith}
-use mathlib.Core.Path.{_≡_, refl, sym, ap, _∙_}
-use mathlib.Core.List.{List, [], _∷_, _++_, append-assoc, append-nil}
+use mathlib.Core.Path.{_≡_, sym, ap, _∙_}
+use mathlib.Core.List.{List, _∷_, _++_, append-assoc, append-nil}
 use lib.ListN.{length, getD, take, drop, set, length-append, length-drop, drop-of-length-le, List·getD-append}
 use borrow.Rule.Slice.PartMut.{putMid, post-is}
-use lib.Seq.{
-  paste,
-  paste-suc,
-  take-paste,
-  drop-paste,
-  drop-drop,
-  take-append-add,
-  take-all,
-  take-length,
-  length-take-le,
-  length-paste-head,
-  take-suc,
-  drop-cons,
-  set-at,
-  getD-take,
-  getD-drop,
-}
+use lib.Seq.{paste, paste-suc, take-paste, drop-paste, drop-drop, take-append-add, take-all, take-length, length-take-le, take-suc, drop-cons, set-at, getD-take, getD-drop}
 
 -- one more number of the run
 pub copy-more : (d d₀ s : List ℕ) (at j o v : ℕ) → o ≡ at + j → d ≡ paste d₀ at s j → at + j < length d₀ → j < length s

@@ -2,7 +2,7 @@
 -- Assumes nothing.
 use borrow.Author.Needs.{needs}
 use borrow.Author.Tests.{le-leb, lt-leb}
-use mathlib.Core.Path.{_≡_, sym, ap, _∙_}
+use mathlib.Core.Path.{sym, _∙_}
 use native.Mathlib.Omega.{arith}
 use Rattle.form.proofs.Accepted.{Accepted, accepted}
 use Rattle.model.specs.Layer.{rowsAfter}
@@ -32,7 +32,8 @@ returns c =
       back-checked (a .c) (a .n) (a .m) (a .layer .now) (a .r),
       ← h .check .ensures,
       f .f .given .1,
-      le-leb (rowsAfter (a .n) (layerOf (a .c) (a .m) (a .layer .now))) (a .r) (omega (arith, c .if1 .taken, known f .shown)),
+      le-leb (rowsAfter (a .n) (layerOf (a .c) (a .m) (a .layer .now))) (a .r)
+          (omega (arith, c .if1 .taken, known f .shown)),
     )
 
 origin-of-requires : tie.Need-origin-of-requires
@@ -52,7 +53,8 @@ returns-2 c =
       back-checked (a .c) (a .n) (a .m) (a .layer .now) (a .r),
       ← h .check .ensures,
       f .f .given .1,
-      lt-leb (rowsAfter (a .n) (layerOf (a .c) (a .m) (a .layer .now))) (a .r) (omega (arith, c .before .if1 .left, known f .shown)),
+      lt-leb (rowsAfter (a .n) (layerOf (a .c) (a .m) (a .layer .now))) (a .r)
+          (omega (arith, c .before .if1 .left, known f .shown)),
     )
     (c .origin-of .ensures)
 

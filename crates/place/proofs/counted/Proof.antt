@@ -15,10 +15,12 @@ Inv-loop c m layer s to i₀ at₀ adds₀ strikes₀ i at adds strikes = Counti
 abbrev μ-loop : tie.MeasureT-loop
 μ-loop c m layer s to i₀ at₀ adds₀ strikes₀ i at adds strikes = m - i
 
-room : (c : tie.In-loop Inv-loop μ-loop) → c .before .loop .at + (c .before .before .before .args .c + 2) ≤ length (c .before .before .before .args .layer .now)
+room : (c : tie.In-loop Inv-loop μ-loop) → c .before .loop .at + (c .before .before .before .args .c + 2) ≤ length
+    (c .before .before .before .args .layer .now)
 room c =
     let a = c .before .before .before .args in
-    here (a .c) (a .m) (c .before .loop .i) (c .before .loop .at) (length (a .layer .now)) (c .loop-test .taken) (c .before .loop .inv .room)
+    here (a .c) (a .m) (c .before .loop .i) (c .before .loop .at) (length (a .layer .now)) (c .loop-test .taken)
+    (c .before .loop .inv .room)
 
 loop-holds : tie.Need-loop-holds Inv-loop μ-loop
 loop-holds c = begin _ _ _ _ (c .before .pre)

@@ -3,10 +3,9 @@
 use borrow.Author.Needs.{needs}
 use native.Mathlib.Omega.{arith}
 use mathlib.Core.Path.{_≡_, sym, ap, _∙_}
-use Prim.Native.Nat.{ℕ, _+_, _-_, _≤_, _<_}
+use Prim.Native.Nat.{_+_, _-_, _≤_}
 use lib.ListN.{length}
-use Rattle.model.specs.Raw.{ADD, STRIKE, entryAt}
-use Rattle.model.specs.Position.{added}
+use Rattle.model.specs.Raw.{entryAt}
 use Rattle.model.specs.Calls.{originAnswer}
 use Rattle.model.proofs.Raw.{here}
 use Rattle.place.proofs.Walking.{Walking, begin, end, before, here-added, past-add, past-strike, past-change}
@@ -19,10 +18,12 @@ Inv-loop c n m layer r i₀ at₀ t₀ i at t = Walking c n m layer r i at t
 abbrev μ-loop : tie.MeasureT-loop
 μ-loop c n m layer r i₀ at₀ t₀ i at t = m - i
 
-room : (c : tie.In-loop Inv-loop μ-loop) → c .before .loop .at + (c .before .before .before .args .c + 2) ≤ length (c .before .before .before .args .layer .now)
+room : (c : tie.In-loop Inv-loop μ-loop) → c .before .loop .at + (c .before .before .before .args .c + 2) ≤ length
+    (c .before .before .before .args .layer .now)
 room c =
     let a = c .before .before .before .args in
-    here (a .c) (a .m) (c .before .loop .i) (c .before .loop .at) (length (a .layer .now)) (c .loop-test .taken) (c .before .loop .inv .room)
+    here (a .c) (a .m) (c .before .loop .i) (c .before .loop .at) (length (a .layer .now)) (c .loop-test .taken)
+    (c .before .loop .inv .room)
 
 -- the entry does not stand after base row t
 not-before : (c : tie.Else1 Inv-loop μ-loop) →
@@ -50,7 +51,8 @@ kind-at-requires c κs = room (c .before)
 returns : tie.Need-returns Inv-loop μ-loop
 returns c =
     let l = c .before .before .before in
-    ap originAnswer (before (l .before .loop .inv) (l .loop-test .taken) (omega (arith, c .if1 .taken, c .before .before .pos-at .ensures)))
+    ap originAnswer (before (l .before .loop .inv) (l .loop-test .taken)
+    (omega (arith, c .if1 .taken, c .before .before .pos-at .ensures)))
 
 add-at : tie.Need-add-at Inv-loop μ-loop
 add-at c = omega (arith, room (c .before .before .before))
@@ -70,7 +72,8 @@ returns-2 c =
     let l = f .before .before .before in
     let i = l .before .loop .i in
     let e : (i + 1) - 1 ≡ i = omega arith in
-    rw e (ap originAnswer (here-added (l .before .loop .inv) (l .loop-test .taken) (not-before f) (kind-is f ∙ c .before .if2 .taken)
+    rw e (ap originAnswer (here-added (l .before .loop .inv) (l .loop-test .taken) (not-before f)
+    (kind-is f ∙ c .before .if2 .taken)
     (c .if3 .taken ∙ f .before .before .pos-at .ensures)))
 
 sub-t : tie.Need-sub-t Inv-loop μ-loop
@@ -98,7 +101,8 @@ loop-again-2 : tie.Need-loop-again-2 Inv-loop μ-loop
 loop-again-2 c =
     let f = c .before .before in
     let l = f .before .before .before in
-    past-strike (l .before .loop .inv) (l .loop-test .taken) (not-before f) (λ e. c .before .if2 .left (sym (kind-is f) ∙ e)) (kind-is f ∙ c .if4 .taken)
+    past-strike (l .before .loop .inv) (l .loop-test .taken) (not-before f)
+    (λ e. c .before .if2 .left (sym (kind-is f) ∙ e)) (kind-is f ∙ c .if4 .taken)
 
 loop-less-3 : tie.Need-loop-less-3 Inv-loop μ-loop
 loop-less-3 c = search needs
@@ -107,7 +111,8 @@ loop-again-3 : tie.Need-loop-again-3 Inv-loop μ-loop
 loop-again-3 c =
     let f = c .before .before in
     let l = f .before .before .before in
-    past-change (l .before .loop .inv) (l .loop-test .taken) (not-before f) (λ e. c .before .if2 .left (sym (kind-is f) ∙ e))
+    past-change (l .before .loop .inv) (l .loop-test .taken) (not-before f)
+    (λ e. c .before .if2 .left (sym (kind-is f) ∙ e))
     (λ e. c .if4 .left (sym (kind-is f) ∙ e))
 
 returns-3 : tie.Need-returns-3 Inv-loop μ-loop

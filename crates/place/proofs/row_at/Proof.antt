@@ -1,8 +1,7 @@
 -- `place::row_at` meets its contract: the shift is small, and takes s to a row that is not negative.
 -- Assumes nothing.
 use borrow.Author.Needs.{needs}
-use mathlib.Core.Path.{_≡_, sym, ap, _∙_}
-use native.Mathlib.Omega.{arith}
+use mathlib.Core.Path.{_≡_}
 use Rattle.model.specs.Raw.{layerOf}
 use Rattle.model.specs.Position.{shift}
 use Rattle.model.proofs.Position.{row-never-negative}
@@ -31,7 +30,8 @@ returns : tie.Need-returns
 returns c =
     let a = c .before .before .before .args in
     let e = rw (read (c .before)) at (c .shifted .ensures) in
-    let f = row-never-negative (a .c) (a .n) (layerOf (a .c) (a .m) (a .layer .now)) (c .before .before .before .pre .2) (a .s) in
+    let f = row-never-negative (a .c) (a .n) (layerOf (a .c) (a .m) (a .layer .now))
+    (c .before .before .before .pre .2) (a .s) in
     cc
 
 pub row-at-spec : {M : Type 1} → statement M

@@ -1,8 +1,9 @@
 -- `place::shift_at` meets its contract: the shift is the adds up to s less the strikes before s, and both are few.
 -- Assumes nothing.
 use borrow.Author.Needs.{needs}
-use mathlib.Core.Path.{_≡_, sym, ap, _∙_}
+use mathlib.Core.Path.{_≡_}
 use native.Mathlib.Omega.{arith}
+use Prim.Native.Nat.{_≤_}
 use Rattle.order.proofs.Counts.{count-le}
 use Rattle.model.specs.Raw.{layerOf}
 use Rattle.model.specs.Position.{addUpTo, strikeBefore, shift}
@@ -15,8 +16,9 @@ use Rattle.place.proofs.shift_at.Tie as tie
 counted-requires : tie.Need-counted-requires
 counted-requires c κs = search needs
 
-less-requires : tie.Need-less-requires
-less-requires c κs =
+-- both counts are at most the entries
+few : (c : tie.After-counted) → (c .counted .result .adds ≤ 512) × (c .counted .result .strikes ≤ 512)
+few c =
     let a = c .before .before .args in
     let L = layerOf (a .c) (a .m) (a .layer .now) in
     let l = layer-length (a .c) (a .m) (a .layer .now) in
@@ -24,6 +26,9 @@ less-requires c κs =
       omega (arith, c .counted .ensures .0, count-le (addUpTo (a .s)) L, l, m),
       omega (arith, c .counted .ensures .1, count-le (strikeBefore (a .s)) L, l, m),
     )
+
+less-requires : tie.Need-less-requires
+less-requires c κs = let f = few c in (omega (arith, f .0, f .1), omega (arith, f .0, f .1))
 
 returns : tie.Need-returns
 unfolding shift

@@ -1,6 +1,6 @@
 -- The column number, then the form check, then the room of the buffer.
 -- Assumes nothing.
-use mathlib.Core.Path.{_≡_, sym, _∙_}
+use mathlib.Core.Path.{sym, _∙_}
 use Rattle.read.proofs.Answers.{column-refused, form-refused, short, enough}
 use borrow.Author.Needs.{needs}
 use Rattle.read.proofs.answer.Statement.{statement}

@@ -1,8 +1,8 @@
 use lib.ListN.{length}
 -- Where the answer is done, the read fills the buffer; where it is refused, nothing is written.
 -- Assumes nothing.
-use mathlib.Core.Path.{_≡_, refl, sym, ap, _∙_}
-use Rattle.model.specs.declared.Answer.the-variants.{Done, Refused}
+use mathlib.Core.Path.{refl, sym, ap, _∙_}
+use Rattle.model.specs.declared.Answer.the-variants.{Done}
 use Rattle.read.proofs.Answers.{Finished, done}
 use borrow.Author.Needs.{needs}
 use Rattle.read.proofs.read.Statement.{statement}

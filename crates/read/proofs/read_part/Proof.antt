@@ -1,15 +1,15 @@
+-- The loop over the entries keeps `Going`: each kind of entry has its law there, and the rest of the base is shown at the end.
+-- Assumes nothing.
 use native.Mathlib.Omega.{arith}
-use Prim.Native.Nat.{ℕ, _+_, _-_, _≤_, _<_}
-use mathlib.Core.Path.{_≡_, refl, sym, ap, _∙_}
-use mathlib.Core.List.{[], _∷_, _++_}
+use Prim.Native.Nat.{_+_, _-_, _<_}
+use mathlib.Core.Path.{_≡_}
+use mathlib.Core.List.{_++_}
 use lib.ListN.{length, drop}
 use Rattle.model.specs.Calls.{shownColumn}
-use Rattle.read.specs.Runs.{Wrote, Readable}
 use Rattle.read.proofs.Writing.{wrote-none}
 use Rattle.read.proofs.Going.{
   Going,
   Met,
-  Shows,
   near,
   passed,
   fitting,
@@ -31,26 +31,26 @@ Inv-loop c m layer base j out₀ i₀ at₀ s₀ o₀ out i at s o = Going c m l
 abbrev μ-loop : tie.MeasureT-loop
 μ-loop c m layer base j out₀ i₀ at₀ s₀ o₀ out i at s o = m - i
 
--- what the calls have read is the entry
-met : (c : tie.After-value-at2 Inv-loop μ-loop)
-    → let l = c .before .before .before .before .before in
-    let a = l .before .before .before .before .args in
-    Met (a .c) (a .j) (a .layer .now) (l .loop .at) (c .before .before .before .pos-at .result) (c .before .before .kind-at .result)
-    (c .before .value-at .result) (c .value-at2 .result)
-met c =
-    record {
-      pos-is = c .before .before .before .pos-at .ensures;
-      kind-is = c .before .before .kind-at .ensures;
-      first-is = c .before .value-at .ensures;
-      own-is = c .value-at2 .ensures;
-    }
+-- in a turn, once the entry is read: the loop's head, its invariant and its test, and what was read
+module _ (d : tie.After-value-at2 Inv-loop μ-loop) where
+  abbrev head : tie.At-loop Inv-loop μ-loop
+  head = d .before .before .before .before .before
 
-module _ (c : tie.After-value-at2 Inv-loop μ-loop) where
-  abbrev at-loop : tie.At-loop Inv-loop μ-loop
-  at-loop = c .before .before .before .before .before
+  abbrev entered : tie.Start Inv-loop μ-loop
+  entered = head .before .before .before .before
 
-  abbrev inside : at-loop .loop .i < at-loop .before .before .before .before .args .m
-  inside = c .before .before .before .before .loop-test .taken
+  inside : head .loop .i < entered .args .m
+  inside = d .before .before .before .before .loop-test .taken
+
+  met : let a = entered .args in
+      Met (a .c) (a .j) (a .layer .now) (head .loop .at) (d .before .before .before .pos-at .result)
+      (d .before .before .kind-at .result) (d .before .value-at .result) (d .value-at2 .result)
+  met = record {
+    pos-is = d .before .before .before .pos-at .ensures;
+    kind-is = d .before .before .kind-at .ensures;
+    first-is = d .before .value-at .ensures;
+    own-is = d .value-at2 .ensures;
+  }
 
 -- what stands in the buffer at the end
 finished : (c : tie.After-slice-known5 Inv-loop μ-loop)
@@ -61,7 +61,8 @@ finished : (c : tie.After-slice-known5 Inv-loop μ-loop)
     × (f .last .1 .1 .1 .0 ≡ t ++ drop (length t) (a .out .now))
 finished c =
     let l = c .before .before .before .before .before in
-    ended (l .loop .inv) (c .before .before .before .before .loop-test .left) (l .before .before .before .before .pre) (c .before .before .show-rows2 .ensures)
+    let t = c .before .before .before .before .loop-test .left in
+    ended (l .loop .inv) t (l .before .before .before .before .pre) (c .before .before .show-rows2 .ensures)
 
 loop-holds : tie.Need-loop-holds Inv-loop μ-loop
 loop-holds c = set-out (c .before .before .before .pre)
@@ -74,94 +75,107 @@ kind-at-requires c κs = near (c .before .before .loop .inv) (c .before .loop-te
 
 value-at-requires : tie.Need-value-at-requires Inv-loop μ-loop
 value-at-requires c κs =
-    let st = c .before .before .before .before .before .before .before in
-    (near (c .before .before .before .loop .inv) (c .before .before .loop-test .taken), omega (arith, st .pre .column))
+    let l = c .before .before .before in
+    (near (l .loop .inv) (c .before .before .loop-test .taken), omega (arith, l .before .before .before .before .pre .column))
 
 value-at-requires-2 : tie.Need-value-at-requires-2 Inv-loop μ-loop
 value-at-requires-2 c κs =
-    let st = c .before .before .before .before .before .before .before .before in
-    (near (c .before .before .before .before .loop .inv) (c .before .before .before .loop-test .taken), st .pre .column)
+    let l = c .before .before .before .before in
+    (near (l .loop .inv) (c .before .before .before .loop-test .taken), l .before .before .before .before .pre .column)
 
 add-at : tie.Need-add-at Inv-loop μ-loop
-add-at c = omega (arith, near (at-loop c .loop .inv) (inside c), inside c)
+add-at d = omega (arith, near (head d .loop .inv) (inside d))
 
 add-at-2 : tie.Need-add-at-2 Inv-loop μ-loop
-add-at-2 c = omega (arith, near (at-loop c .loop .inv) (inside c), inside c)
+add-at-2 d = omega (arith, near (head d .loop .inv) (inside d))
 
 add-i : tie.Need-add-i Inv-loop μ-loop
-add-i c = omega (arith, near (at-loop c .loop .inv) (inside c), inside c)
+add-i d = omega (arith, inside d)
 
+-- an add
 show-rows-and-requires : tie.Need-show-rows-and-requires Inv-loop μ-loop
 show-rows-and-requires c κs =
-    let d = c .before .before in
-    let w = on-add (at-loop d .loop .inv) (inside d) (met d) (c .before .if1 .taken) in
-    (w .0, w .1, fitting (at-loop d .loop .inv) (inside d) (w .2))
+    let t = c .before in
+    let d = t .before in
+    let w = on-add (head d .loop .inv) (inside d) (met d) (t .if1 .taken) in
+    (w .0, w .1, fitting (head d .loop .inv) (inside d) (w .2))
 
 loop-less : tie.Need-loop-less Inv-loop μ-loop
-loop-less c = let d = c .before .before .before .before .before in omega (arith, inside d)
+loop-less c = omega (arith, inside (c .before .before .before .before .before))
 
 loop-again : tie.Need-loop-again Inv-loop μ-loop
 loop-again c =
-    let d = c .before .before .before .before .before in
-    let w = on-add (at-loop d .loop .inv) (inside d) (met d) (c .before .before .before .before .if1 .taken) in
-    passed (at-loop d .loop .inv) (inside d) (w .2) (c .before .before .show-rows-and .ensures)
+    let t = c .before .before .before .before in
+    let d = t .before in
+    let w = on-add (head d .loop .inv) (inside d) (met d) (t .if1 .taken) in
+    passed (head d .loop .inv) (inside d) (w .2) (c .before .before .show-rows-and .ensures)
 
+-- a strike
 show-rows-requires : tie.Need-show-rows-requires Inv-loop μ-loop
 show-rows-requires c κs =
-    let d = c .before .before .before in
-    let w = on-strike (at-loop d .loop .inv) (inside d) (met d) (c .before .before .if1 .left) (c .before .if2 .taken) in
-    (w .0, omega (arith, w .1), fitting (at-loop d .loop .inv) (inside d) (w .2))
+    let t = c .before in
+    let d = t .before .before in
+    let w = on-strike (head d .loop .inv) (inside d) (met d) (t .if2 .taken) in
+    (w .0, omega (arith, w .1), fitting (head d .loop .inv) (inside d) (w .2))
 
 add-s : tie.Need-add-s Inv-loop μ-loop
 add-s c =
-    let d = c .before .before .before .before .before .before in
-    let w = on-strike (at-loop d .loop .inv) (inside d) (met d) (c .before .before .before .before .before .if1 .left) (c .before .before .before .before .if2 .taken) in
-    omega (arith, w .1, at-loop d .before .before .before .before .good .1 .1 .1 .0)
+    let t = c .before .before .before .before in
+    let d = t .before .before in
+    let w = on-strike (head d .loop .inv) (inside d) (met d) (t .if2 .taken) in
+    omega (arith, w .1, entered d .good .1 .1 .1 .0)
 
 loop-less-2 : tie.Need-loop-less-2 Inv-loop μ-loop
-loop-less-2 c = let d = c .before .before .before .before .before .before in omega (arith, inside d)
+loop-less-2 c = omega (arith, inside (c .before .before .before .before .before .before))
 
 loop-again-2 : tie.Need-loop-again-2 Inv-loop μ-loop
 loop-again-2 c =
-    let d = c .before .before .before .before .before .before in
-    let w = on-strike (at-loop d .loop .inv) (inside d) (met d) (c .before .before .before .before .before .if1 .left) (c .before .before .before .before .if2 .taken) in
-    passed (at-loop d .loop .inv) (inside d) (w .2) (c .before .before .show-rows .ensures)
+    let t = c .before .before .before .before in
+    let d = t .before .before in
+    let w = on-strike (head d .loop .inv) (inside d) (met d) (t .if2 .taken) in
+    passed (head d .loop .inv) (inside d) (w .2) (c .before .before .show-rows .ensures)
 
+-- a change of column j
 show-rows-and-requires-2 : tie.Need-show-rows-and-requires-2 Inv-loop μ-loop
 show-rows-and-requires-2 c κs =
-    let d = c .before .before .before .before in
-    let w = on-change (at-loop d .loop .inv) (inside d) (met d) (c .before .before .before .if1 .left) (c .before .before .if2 .left) (c .before .if3 .taken) in
-    (w .0, omega (arith, w .1), fitting (at-loop d .loop .inv) (inside d) (w .2))
+    let t = c .before in
+    let d = t .before .before .before in
+    let w = on-change (head d .loop .inv) (inside d) (met d) (t .before .before .if1 .left) (t .before .if2 .left) (t .if3 .taken) in
+    (w .0, omega (arith, w .1), fitting (head d .loop .inv) (inside d) (w .2))
 
 add-s-2 : tie.Need-add-s-2 Inv-loop μ-loop
 add-s-2 c =
-    let d = c .before .before .before .before .before .before .before in
-    let w = on-change (at-loop d .loop .inv) (inside d) (met d) (c .before .before .before .before .before .before .if1 .left) (c .before .before .before .before .before .if2 .left) (c .before .before .before .before .if3 .taken) in
-    omega (arith, w .1, at-loop d .before .before .before .before .good .1 .1 .1 .0)
+    let t = c .before .before .before .before in
+    let d = t .before .before .before in
+    let w = on-change (head d .loop .inv) (inside d) (met d) (t .before .before .if1 .left) (t .before .if2 .left) (t .if3 .taken) in
+    omega (arith, w .1, entered d .good .1 .1 .1 .0)
 
 loop-less-3 : tie.Need-loop-less-3 Inv-loop μ-loop
-loop-less-3 c = let d = c .before .before .before .before .before .before .before in omega (arith, inside d)
+loop-less-3 c = omega (arith, inside (c .before .before .before .before .before .before .before))
 
 loop-again-3 : tie.Need-loop-again-3 Inv-loop μ-loop
 loop-again-3 c =
-    let d = c .before .before .before .before .before .before .before in
-    let w = on-change (at-loop d .loop .inv) (inside d) (met d) (c .before .before .before .before .before .before .if1 .left) (c .before .before .before .before .before .if2 .left) (c .before .before .before .before .if3 .taken) in
-    passed (at-loop d .loop .inv) (inside d) (w .2) (c .before .before .show-rows-and2 .ensures)
+    let t = c .before .before .before .before in
+    let d = t .before .before .before in
+    let w = on-change (head d .loop .inv) (inside d) (met d) (t .before .before .if1 .left) (t .before .if2 .left) (t .if3 .taken) in
+    passed (head d .loop .inv) (inside d) (w .2) (c .before .before .show-rows-and2 .ensures)
 
+-- a change of another column
 loop-less-4 : tie.Need-loop-less-4 Inv-loop μ-loop
-loop-less-4 c = let d = c .before .before .before in omega (arith, inside d)
+loop-less-4 c = omega (arith, inside (c .before .before .before))
 
 loop-again-4 : tie.Need-loop-again-4 Inv-loop μ-loop
 loop-again-4 c =
     let d = c .before .before .before in
-    let w = on-other (at-loop d .loop .inv) (inside d) (met d) (c .before .before .if1 .left) (c .before .if2 .left) (c .if3 .left) in
-    passed (at-loop d .loop .inv) (inside d) w (wrote-none _ _)
+    let w = on-other (head d .loop .inv) (inside d) (met d) (c .before .before .if1 .left) (c .before .if2 .left) (c .if3 .left) in
+    passed (head d .loop .inv) (inside d) w (wrote-none _ _)
 
+-- the rest of the base
 show-rows-requires-2 : tie.Need-show-rows-requires-2 Inv-loop μ-loop
 show-rows-requires-2 c κs =
-    let l = c .before .before in
+    let g = c .before .before .loop .inv in
     let t = c .before .loop-test .left in
-    (last-row (l .loop .inv) t, omega arith, last-room (l .loop .inv) t)
+    (last-row g t, omega arith, last-room g t)
 
 same-length : tie.Need-same-length Inv-loop μ-loop
 same-length c = finished c .0

@@ -2,7 +2,6 @@
 -- Assumes nothing.
 use borrow.Author.Needs.{needs}
 use native.Mathlib.Omega.{arith}
-use Prim.Native.Nat.{_+_, _≤_}
 use mathlib.Core.Path.{ap, subst}
 use mathlib.Core.List.{List}
 use Prim.Native.Nat.{ℕ}

@@ -1,76 +1,78 @@
-use native.Mathlib.Omega.{arith}
-use mathlib.Core.Path.{_≡_, refl, sym, ap, _∙_}
-use lib.ListN.{length, take}
-use lib.Seq.{length-take-le}
-use Rattle.model.specs.declared.Answer.the-variants.{Done}
-use Rattle.model.specs.Calls.{readAnswer, viewPart}
-use Rattle.read.proofs.Answers.{Finished, done, front-viewed, base-viewed, none-viewed}
+-- Each name that the part goes by is one part of the two slices: the base itself, or what begins where a slice begins.
+-- Assumes nothing.
 use borrow.Author.Needs.{needs}
+use mathlib.Core.Path.{_≡_, refl, sym, _∙_}
+use lib.ListN.{length}
+use lib.Seq.{length-take-le}
+use Rattle.model.specs.Read.{Part, wholeBase, bufferFront, emptyBase}
+use Rattle.model.specs.Calls.{viewPart}
+use Rattle.read.proofs.Viewing.{front-within, is-base, is-front, is-nothing}
 use Rattle.read.proofs.view.Statement.{statement}
 use Rattle.read.proofs.view.Tie as tie
 
-answer-requires : tie.Need-answer-requires
-answer-requires c κs = search needs
+-- the part, and what it is in each arm
+abbrev part : tie.After-view-part → Part
+part v =
+    let a = v .before .before .before .before .args in
+    viewPart (a .c) (a .m) (a .layer .now) (a .base .now) (a .j) (length (a .out .now))
 
-enum-known-a : tie.Need-enum-known-a
-enum-known-a c = search needs
+base-here : (c : tie.After-enum-told) → part (c .before .before) ≡ wholeBase
+base-here c =
+    let v = c .before .before in
+    is-base _ (c .enum-told .given .0 .0) (part v) (sym (c .enum-told .given .1) ∙ v .view-part .ensures)
 
--- the answer is done, with so many rows
-answered : (c : tie.After-known-told)
-    → let a = c .before .before .before .before .before .before .before .args in
-    readAnswer (a .c) (a .m) (a .layer .now) (a .base .now) (a .j) (length (a .out .now)) ≡ Done (c .before .a .given .0 .0)
-answered c = sym (c .before .before .before .answer .ensures) ∙ c .before .a .given .1
+front-here : (c : tie.After-p) → part (c .before .before) ≡ bufferFront (c .p .given .0 .0)
+front-here c =
+    let v = c .before .before in
+    is-front _ (c .p .given .0 .0) (part v) (sym (c .p .given .1) ∙ v .view-part .ensures)
 
-finished : (c : tie.After-known-told)
-    → let a = c .before .before .before .before .before .before .before .args in
-    Finished (a .c) (a .m) (a .layer .now) (a .base .now) (a .j) (length (a .out .now)) (c .before .a .given .0 .0)
-finished c =
-    let a = c .before .before .before .before .before .before .before .args in
-    done (a .c) (a .m) (a .layer .now) (a .base .now) (a .j) (length (a .out .now)) (c .before .a .given .0 .0) (answered c)
+nothing-here : (c : tie.After-enum-told2) → part (c .before .before) ≡ emptyBase
+nothing-here c =
+    let v = c .before .before in
+    is-nothing _ (part v) (sym (c .enum-told2 .given .1) ∙ v .view-part .ensures)
 
-touched-requires : tie.Need-touched-requires
-touched-requires c κs = finished c .readable .held
-
-slice-aggregate-result : tie.Need-slice-aggregate-result
-slice-aggregate-result c =
-    let d = c .before .before .before in
-    let a = d .before .before .before .before .before .before .before .args in
-    sym (length-take-le (d .before .a .given .0 .0) (a .out .now) (finished d .within))
-
-returns : tie.Need-returns
-returns c =
-    let d = c .before .before .before in
-    let a = d .before .before .before .before .before .before .before .args in
-    rw (front-viewed (a .c) (a .m) (a .layer .now) (a .base .now) (a .j) (length (a .out .now)) _ (answered d) (sym (c .before .before .touched .ensures) ∙ c .before .if1 .taken)) (refl, refl)
+view-part-requires : tie.Need-view-part-requires
+view-part-requires c κs = search needs
 
 enum-told : tie.Need-enum-told
 enum-told c = search needs
 
+enum-known-p : tie.Need-enum-known-p
+enum-known-p c = search needs
+
+slice-aggregate-result : tie.Need-slice-aggregate-result
+slice-aggregate-result c =
+    let p = c .before .before in
+    let a = p .before .before .before .before .before .before .args in
+    let k = p .p .given .0 .0 in
+    let h = front-within (a .c) (a .m) (a .layer .now) (a .base .now) (a .j) (length (a .out .now)) k (front-here p) in
+    sym (length-take-le k (a .out .now) h)
+
+enum-told-2 : tie.Need-enum-told-2
+enum-told-2 c = search needs
+
 slice-aggregate-result-2 : tie.Need-slice-aggregate-result-2
 slice-aggregate-result-2 c = refl
 
+returns : tie.Need-returns
+returns c = rw (base-here c) (record { numbers = refl; place = refl })
+
 returns-2 : tie.Need-returns-2
-returns-2 c =
-    let d = c .before .before in
-    let a = d .before .before .before .before .before .before .before .args in
-    rw (base-viewed (a .c) (a .m) (a .layer .now) (a .base .now) (a .j) (length (a .out .now)) _ (answered d) (sym (c .before .touched .ensures) ∙ c .if1 .left)) (refl, refl)
+returns-2 c = rw (front-here (c .before .before)) (record { numbers = refl; place = refl })
 
 returns-3 : tie.Need-returns-3
-returns-3 c =
-    let e = c .before in
-    let a = e .before .before .before .before .before .before .args in
-    rw (none-viewed (a .c) (a .m) (a .layer .now) (a .base .now) (a .j) (length (a .out .now)) _ (sym (e .before .before .answer .ensures) ∙ e .enum-told .given .1)) (refl, refl)
+returns-3 c = rw (nothing-here (c .before)) (record { numbers = refl; place = refl })
 
 pub view-spec : {M : Type 1} → statement M
 view-spec =
     tie.close
     (tie.spec
-    answer-requires
-    enum-known-a
-    touched-requires
-    slice-aggregate-result
-    returns
+    view-part-requires
     enum-told
+    enum-known-p
+    slice-aggregate-result
+    enum-told-2
     slice-aggregate-result-2
+    returns
     returns-2
     returns-3)

@@ -3,7 +3,7 @@
 use native.Mathlib.Omega.{arith}
 use native.Mathlib.Nat.{sub-self}
 use mathlib.Core.Path.{_≡_, refl, ap, _∙_}
-use Prim.Native.Nat.{ℕ, _+_, _-_, _≤_}
+use Prim.Native.Nat.{ℕ, _-_, _≤_}
 use lib.ListN.{length, length-set, drop}
 use lib.Seq.{paste, paste-zero}
 use Rattle.run.proofs.Laws.{down-more}
