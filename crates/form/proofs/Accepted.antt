@@ -1,10 +1,9 @@
 -- What callers know of a layer that the form check accepts.
 -- Assumes nothing.
 use Prim.Native.Nat.{ℕ, _+_, _*_, _≤_}
-use native.Mathlib.Nat.{zero-add}
 use native.Mathlib.Omega.{arith}
 use mathlib.Core.Path.{_≡_, refl, sym, ap, _∙_}
-use mathlib.Core.Bool.{Bool, true, false, not, cond, _&&_, _||_}
+use mathlib.Core.Bool.{Bool, true, false, not, cond, _&&_}
 use mathlib.Core.List.{List, [], _∷_, List·Memᴰ as Mem, List·Memᴰ·not-nil as not-nil}
 use lib.ListN.{length, take}
 use lib.Dec.{ltb, leb}
@@ -66,7 +65,9 @@ passed false b x y e = absurd (let z : _≡_ {A = ℕ} 0 1 = cc in omega arith)
 module _ (c n m : ℕ) (xs : List ℕ) (rows : ℕ) (h : formAnswer c n m xs ≡ Done rows) where
   done : (argsOk c n m (length xs) ≡ true) × (breaksForm c n m xs ≡ false) × (rowsAfter n (layerOf c m xs) ≡ rows)
   unfolding formAnswer
-  done = passed (argsOk c n m (length xs)) (breaksForm c n m xs) (refusal 1 0) (refusal 2 (0 + formPlace c n (entriesOf c m xs))) h
+  done =
+      passed (argsOk c n m (length xs)) (breaksForm c n m xs) (refusal 1 0)
+      (refusal 2 (0 + formPlace c n (entriesOf c m xs))) h
 
   kept : (ltb (formPlace c n (entriesOf c m xs)) m ≡ false) × (ltb 4096 (rowsAfter n (layerOf c m xs)) ≡ false)
   unfolding breaksForm
@@ -107,8 +108,8 @@ module _ (c n m : ℕ) (xs : List ℕ) (rows : ℕ) (h : formAnswer c n m xs ≡
         each = formed .each;
         pairs = formed .pairs;
         ordered = in-order c n (layerOf c m xs) formed;
-        kept = and-of (inOrder c n (layerOf c m xs)) (leb (rowsAfter n (layerOf c m xs)) 4096) (in-order c n (layerOf c m xs) formed)
-            (le-leb (rowsAfter n (layerOf c m xs)) 4096 total);
+        kept = and-of (inOrder c n (layerOf c m xs)) (leb (rowsAfter n (layerOf c m xs)) 4096)
+            (in-order c n (layerOf c m xs) formed) (le-leb (rowsAfter n (layerOf c m xs)) 4096 total);
         strikes = strikes-few c n (layerOf c m xs) formed;
         size = layer-length c m xs;
         zeroed = good .zeroed;
@@ -136,7 +137,8 @@ module _ (c m : ℕ) (xs K : List ℕ) (h : fitAnswer c m xs K ≡ Done 0) where
   fit-done = form-first (formAnswer c (length K) m xs)
       (sym (after-form Refused c (length K) m xs (badKeys K ∷ badFit 0 K (layerOf c m xs) ∷ []) (Done 0)) ∙ h)
 
-  neither : (ascending K ≡ true) × (ltb (fitPlace K (layerOf c m xs)) (length (layerOf c m xs)) ≡ false) × (_≡_ {A = ℕ} 0 0)
+  neither : (ascending K ≡ true) × (ltb (fitPlace K (layerOf c m xs)) (length (layerOf c m xs)) ≡ false)
+      × (_≡_ {A = ℕ} 0 0)
   neither =
       passed (ascending K) (ltb (fitPlace K (layerOf c m xs)) (length (layerOf c m xs))) (refusal 3 0)
       (refusal 4 (0 + fitPlace K (layerOf c m xs))) (fit-done .2)
@@ -149,7 +151,9 @@ module _ (c m : ℕ) (xs K : List ℕ) (h : fitAnswer c m xs K ≡ Done 0) where
 
   pub fitted : Fitted c m xs K
   fitted = record {
-    form = accepted c (length K) m xs (rowsAfter (length K) (layerOf c m xs)) (in-form c (length K) m xs (fit-done .0) (fit-done .1));
+    form =
+        accepted c (length K) m xs (rowsAfter (length K) (layerOf c m xs))
+        (in-form c (length K) m xs (fit-done .0) (fit-done .1));
     rising = neither .0;
     fit = fits-all;
   }

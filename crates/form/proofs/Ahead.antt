@@ -1,10 +1,10 @@
--- Over a layer in form, the pass that looks at the one entry before, and ahead for a strike, finds the document's place of fit.
+-- Over a layer in form the pass that looks at the one entry before, and ahead for a strike, finds the document's place.
 -- Assumes nothing.
 use Prim.Native.Nat.{ℕ, suc, _≤_, _<_}
 use native.Mathlib.Omega.{arith}
 use mathlib.Core.Path.{_≡_, refl, sym, ap, _∙_}
-use mathlib.Core.Logic.{_⊎_, inl, inr, ⊎-elim}
-use mathlib.Core.Bool.{Bool, true, false, not, cond, _&&_, _||_, and-true, and-false, or-true, or-assoc, or-comm}
+use mathlib.Core.Logic.{⊎-elim}
+use mathlib.Core.Bool.{Bool, true, false, not, cond, _&&_, _||_, and-true, and-false, or-true}
 use mathlib.Core.List.{
   List,
   [],
@@ -18,7 +18,7 @@ use mathlib.Core.List.{
 }
 use lib.ListN.{length, getD}
 use lib.Dec.{leb, ltb, eqb}
-use borrow.Author.Tests.{eqb-true, eqb-false, eq-eqb, ne-eqb}
+use borrow.Author.Tests.{eqb-false, ne-eqb}
 use Rattle.order.specs.Lists.{any}
 use Rattle.order.proofs.Tests.{eqb-sym, lex-cases}
 use Rattle.order.proofs.Members.{any-none, mem-map}
@@ -26,12 +26,13 @@ use Rattle.order.proofs.Pairs.{AllPairs, Unbroken}
 use Rattle.model.specs.declared.Entry.{Entry}
 use Rattle.model.specs.Row.{Row, key}
 use Rattle.model.specs.Cell.{CellEdit, to}
-use Rattle.model.specs.Layer.{Deed, add, strike, change, Edit, at, Layer, position, strikesRow, struck}
+use Rattle.model.specs.Layer.{add, strike, change, Edit, at, Layer, position, strikesRow, struck}
 use Rattle.model.specs.Raw.{ADD, STRIKE, none, editOf}
 use Rattle.model.specs.Form.{sound, after, follows}
-use Rattle.model.specs.Fit.{above, under, suits, keysRise, rises, fitPlace}
+use Rattle.model.specs.Fit.{above, suits, keysRise, rises, fitPlace}
 use Rattle.model.proofs.Edits.{before-of, before-rises, before-trans}
 use Rattle.form.specs.Suit.{first, struckAhead, underAhead, suitsAhead, risesKind, fitFrom}
+use Rattle.form.proofs.ByKind.{editBy, one-kind}
 use Rattle.form.proofs.Neighbours.{leastAfter, unbroken-next, from-start}
 use Rattle.form.proofs.Formed.{Formed, past-strike}
 
@@ -44,9 +45,8 @@ strikes-kind : (s : ℕ) (e : Entry) → strikesRow s (editOf e) ≡ (eqb (e .po
 strikes-kind s e = by (eqb (e .kind) ADD) (eqb (e .kind) STRIKE) refl refl
   where
     by : (a b : Bool) → eqb (e .kind) ADD ≡ a → eqb (e .kind) STRIKE ≡ b
-        → strikesRow s (at (e .pos) (cond a (add (e .vals)) (cond b (strike (first e)) (change (e .kind) (to (first e))))))
-        ≡ (eqb (e .pos) s && b)
-    by true true f g = absurd (omega (arith, eqb-true (e .kind) ADD f, eqb-true (e .kind) STRIKE g))
+        → strikesRow s (editBy a b e) ≡ (eqb (e .pos) s && b)
+    by true true f g = absurd (one-kind (e .kind) f g)
     by true false f g = sym (and-false (eqb (e .pos) s))
     by false true f g = eqb-sym s (e .pos) ∙ sym (and-true (eqb (e .pos) s))
     by false false f g = sym (and-false (eqb (e .pos) s))
@@ -69,7 +69,8 @@ ahead s (e ∷ es) p h =
     ∙ by (eqb (e .pos) s) refl (ahead s es (p .1) (λ d m. h d (next m)))
   where
     by : (t : Bool) → eqb (e .pos) s ≡ t → any (strikesRow s) (map editOf es) ≡ struckAhead s es
-        → (t && eqb (e .kind) STRIKE || any (strikesRow s) (map editOf es)) ≡ (t && (eqb (e .kind) STRIKE || struckAhead s es))
+        → (t && eqb (e .kind) STRIKE || any (strikesRow s) (map editOf es))
+        ≡ (t && (eqb (e .kind) STRIKE || struckAhead s es))
     by true f ih = ap (λ (u : Bool). eqb (e .kind) STRIKE || u) ih
     by false f ih = nowhere s (map editOf es) (λ d m.
         let l : e .pos ≡ s → ⊥ = eqb-false (e .pos) s f in
@@ -85,7 +86,8 @@ rises-kinds true b false false r t i l q k f g = refl
 rises-kinds false true x y r t i l q k f g = refl
 rises-kinds false false x y r t i l q k f g = refl
 
-rises-kind : (d e : Entry) → risesKind (d .pos) (d .kind) (first d) (e .pos) (e .kind) (first e) ≡ rises (editOf d) (editOf e)
+rises-kind : (d e : Entry)
+    → risesKind (d .pos) (d .kind) (first d) (e .pos) (e .kind) (first e) ≡ rises (editOf d) (editOf e)
 unfolding key
 rises-kind d e =
     ap (λ (t : Bool). not (eqb (d .pos) (e .pos)) || t)
@@ -98,8 +100,9 @@ unfolding suitsAhead underAhead key
 suits-kind K L e es h = by (eqb (e .kind) ADD) (eqb (e .kind) STRIKE)
   where
     by : (a b : Bool)
-        → cond a (above K (e .pos) (first e) && underAhead K es (e .pos) (first e)) (not b || eqb (getD K (e .pos) 0) (first e))
-        ≡ suits K L (at (e .pos) (cond a (add (e .vals)) (cond b (strike (first e)) (change (e .kind) (to (first e))))))
+        → cond a (above K (e .pos) (first e) && underAhead K es (e .pos) (first e))
+        (not b || eqb (getD K (e .pos) 0) (first e))
+        ≡ suits K L (editBy a b e)
     by true b = ap (λ (t : Bool). above K (e .pos) (first e)
         && (leb (length K) (e .pos) || (ltb (first e) (getD K (e .pos) 0) || (eqb (first e) (getD K (e .pos) 0) && t)))) h
     by false true = refl
@@ -121,12 +124,14 @@ module _ (c n : ℕ) (K : List ℕ) (L : Layer) where
       → struck (e .pos) L ≡ (any (strikesRow (e .pos)) earlier || any (strikesRow (e .pos)) (map editOf (e ∷ es)))
       → struckAhead (e .pos) (e ∷ es) ≡ struck (e .pos) L
   seen e earlier es U h =
-      sym (h ∙ ap (λ (t : Bool). t || any (strikesRow (e .pos)) (map editOf (e ∷ es))) before ∙ ahead (e .pos) (e ∷ es) (U .pairs) from)
+      sym (h ∙ ap (λ (t : Bool). t || any (strikesRow (e .pos)) (map editOf (e ∷ es))) before
+      ∙ ahead (e .pos) (e ∷ es) (U .pairs) from)
     where
       each : (d : Edit) → Mem d earlier → strikesRow (e .pos) d ≡ false
       each (at p (add r)) m = refl
       each (at p (strike k)) m =
-          ne-eqb (e .pos) p (λ g. omega (arith, past-strike p k (editOf e) (U .past (at p (strike k)) (editOf e) m (here refl))))
+          let l : p < e .pos = past-strike p k (editOf e) (U .past (at p (strike k)) (editOf e) m (here refl)) in
+          ne-eqb (e .pos) p (λ g. omega arith)
       each (at p (change j u)) m = refl
 
       before : any (strikesRow (e .pos)) earlier ≡ false
@@ -150,7 +155,8 @@ module _ (c n : ℕ) (K : List ℕ) (L : Layer) where
 any-rises : (x : Edit) → rises (at 0 (change 0 (to 0))) x ≡ true
 any-rises (at s e) = or-true (not (eqb 0 s))
 
-pub fit-place : (c n : ℕ) (K : List ℕ) (es : List Entry) → Formed c n (map editOf es) → fitFrom K 0 0 0 es ≡ fitPlace K (map editOf es)
+pub fit-place : (c n : ℕ) (K : List ℕ) (es : List Entry) → Formed c n (map editOf es)
+    → fitFrom K 0 0 0 es ≡ fitPlace K (map editOf es)
 unfolding fitPlace
 fit-place c n K es F =
     fit-after c n K (map editOf es) none [] es U (λ s. refl)

@@ -1,10 +1,9 @@
--- The answers of the form check and the fit check as the first rows of the refusal table: what a call that begins with one of them answers.
+-- What a call answers whose first rows of the refusal table are those of the form check, or of the fit check.
 -- Assumes nothing.
 use Prim.Native.Nat.{ℕ, _+_, _≤_, _<_}
 use native.Mathlib.Nat.{zero-add}
-use native.Mathlib.Omega.{arith}
 use mathlib.Core.Path.{_≡_, refl, sym, ap, _∙_}
-use mathlib.Core.Bool.{Bool, true, false, not, cond, _&&_}
+use mathlib.Core.Bool.{Bool, true, false, not, cond}
 use mathlib.Core.List.{List, [], _∷_}
 use lib.ListN.{length}
 use lib.Dec.{ltb}
@@ -17,13 +16,18 @@ use Rattle.model.specs.Layer.{rowsAfter}
 use Rattle.model.specs.Raw.{entriesOf, layerOf}
 use Rattle.model.specs.Form.{argsOk, formPlace}
 use Rattle.model.specs.Fit.{fitPlace}
-use Rattle.model.specs.Refusals.{Test, refuse, refusal, firstMet, badArgs, badForm, badKeys, badFit, breaksForm}
+use Rattle.model.specs.Refusals.{Test, refusal, firstMet, badArgs, badForm, badKeys, badFit, breaksForm}
 use Rattle.model.specs.Calls.{formAnswer, fitAnswer}
 use Rattle.model.proofs.Raw.{layer-length}
 
 -- the same refusal, `more` entries further on
 abbrev pub raised : ℕ → Refusal → Refusal
 raised more x = refusal (x .number) (more + x .place)
+
+-- the four rows of the fit check, where their tests say a, b, d and e
+abbrev four : {A : Type 0} → (Refusal → A) → Bool → Bool → Bool → Bool → Refusal → Refusal → A → A
+four refused a b d e x y z =
+    cond (not a) (refused (refusal 1 0)) (cond b (refused x) (cond (not d) (refused (refusal 3 0)) (cond e (refused y) z)))
 
 module _ {A : Type 0} (refused : Refusal → A) where
   -- the call goes on with z, or is refused as the check before it was
@@ -32,7 +36,8 @@ module _ {A : Type 0} (refused : Refusal → A) where
   onward (Refused x) z = refused x
 
   two : (a b : Bool) (x y : Refusal) (k : ℕ) (z : A)
-      → cond (not a) (refused x) (cond b (refused y) z) ≡ onward (cond (not a) (Refused x) (cond b (Refused y) (Done k))) z
+      → cond (not a) (refused x) (cond b (refused y) z)
+      ≡ onward (cond (not a) (Refused x) (cond b (Refused y) (Done k))) z
   two true true x y k z = refl
   two true false x y k z = refl
   two false b x y k z = refl
@@ -58,9 +63,8 @@ module _ {A : Type 0} (refused : Refusal → A) where
       (refusal 2 (0 + formPlace c (length K) (entriesOf c m xs))) (refusal 4 (0 + fitPlace K (layerOf c m xs)))
     where
       by : (a b d e : Bool) (x y : Refusal)
-          → cond (not a) (refused (refusal 1 0)) (cond b (refused x) (cond (not d) (refused (refusal 3 0)) (cond e (refused y) (firstMet refused tests z))))
-          ≡ onward (cond (not a) (Refused (refusal 1 0)) (cond b (Refused x) (cond (not d) (Refused (refusal 3 0)) (cond e (Refused y) (Done 0)))))
-          (firstMet refused tests z)
+          → four refused a b d e x y (firstMet refused tests z)
+          ≡ onward (four Refused a b d e x y (Done 0)) (firstMet refused tests z)
       by false b d e x y = refl
       by true true d e x y = refl
       by true false false e x y = refl
@@ -73,12 +77,16 @@ pub form-row : {A : Type 0} (refused : Refusal → A) (more c n m : ℕ) (xs : L
     → firstMet refused (badForm more c n m xs ∷ tests) z
     ≡ onward (λ x. refused (raised more x)) (formAnswer c n m xs) (firstMet refused tests z)
 unfolding formAnswer
-form-row refused more c n m xs tests z ok =
-    rw ok (elim (breaksForm c n m xs) as (λ b.
-    cond b (refused (refusal 2 (more + formPlace c n (entriesOf c m xs)))) (firstMet refused tests z)
-    ≡ onward (λ x. refused (raised more x)) (cond b (Refused (refusal 2 (0 + formPlace c n (entriesOf c m xs)))) (Done (rowsAfter n (layerOf c m xs))))
-    (firstMet refused tests z))
-    [ true ↦ ap (λ (p : ℕ). refused (refusal 2 (more + p))) (sym (zero-add (formPlace c n (entriesOf c m xs)))) | false ↦ refl ])
+form-row refused more c n m xs tests z ok = rw ok (by (breaksForm c n m xs))
+  where
+    p : ℕ
+    p = formPlace c n (entriesOf c m xs)
+
+    by : (b : Bool) → cond b (refused (refusal 2 (more + p))) (firstMet refused tests z)
+        ≡ onward (λ x. refused (raised more x)) (cond b (Refused (refusal 2 (0 + p))) (Done (rowsAfter n (layerOf c m xs))))
+        (firstMet refused tests z)
+    by true = ap (λ (k : ℕ). refused (refusal 2 (more + k))) (sym (zero-add p))
+    by false = refl
 
 -- The fit check, case by case.
 module _ (c m : ℕ) (xs K : List ℕ) where
@@ -98,7 +106,8 @@ module _ (c m : ℕ) (xs K : List ℕ) where
     unfolding rest
     keys-refused h = sym (fit-rest ∙ rw (f, h))
 
-    pub place-refused : ascending K ≡ true → (p : ℕ) → p ≡ fitPlace K (layerOf c m xs) → p < m → Refused (refusal 4 p) ≡ fitAnswer c m xs K
+    pub place-refused : ascending K ≡ true → (p : ℕ) → p ≡ fitPlace K (layerOf c m xs) → p < m
+        → Refused (refusal 4 p) ≡ fitAnswer c m xs K
     unfolding rest
     place-refused a p e h = sym (fit-rest ∙ rw (f, a, layer-length c m xs, ← e, lt-ltb p m h, zero-add))
 

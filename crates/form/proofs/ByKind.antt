@@ -2,9 +2,8 @@
 -- Assumes nothing.
 use Prim.Native.Nat.{ℕ, _<_}
 use mathlib.Core.Path.{_≡_, refl, sym, ap, _∙_}
-use mathlib.Core.Logic.{_⊎_, inl, inr, ⊎-elim}
+use mathlib.Core.Logic.{_⊎_, inl, inr}
 use mathlib.Core.Bool.{Bool, true, false, not, cond, _&&_, _||_, true≢false}
-use mathlib.Core.List.{List}
 use native.Mathlib.Omega.{arith}
 use lib.ListN.{getD}
 use lib.Dec.{ltb, eqb}
@@ -16,7 +15,16 @@ use Rattle.model.specs.Cell.{CellEdit, to}
 use Rattle.model.specs.Layer.{Deed, add, strike, change, Edit, at, isAdd, isStrike}
 use Rattle.model.specs.Raw.{ADD, STRIKE, editOf}
 use Rattle.model.specs.Form.{after, follows}
-use Rattle.form.specs.Scan.{afterKind, followsKind, ofKind}
+use Rattle.form.specs.Scan.{followsKind, ofKind}
+
+-- the edit of an entry, by what the two tests of its kind say
+abbrev pub editBy : Bool → Bool → Entry → Edit
+editBy a b e =
+    at (e .pos) (cond a (add (e .vals)) (cond b (strike (getD (e .vals) 0 0)) (change (e .kind) (to (getD (e .vals) 0 0)))))
+
+-- no entry is both an add and a strike
+pub one-kind : (k : ℕ) → eqb k ADD ≡ true → eqb k STRIKE ≡ true → ⊥
+one-kind k f g = omega (arith, eqb-true k ADD f, eqb-true k STRIKE g)
 
 after-kinds : (a b x y : Bool) (r s : Row) (i l q k : ℕ) (f g : CellEdit)
     → (a || (not b && (not x && (not y && ltb q k))))
@@ -36,7 +44,7 @@ follows-kind d e =
 pub add-kind : (e : Entry) → isAdd (editOf e) ≡ ofKind ADD e
 add-kind e = by (eqb (e .kind) ADD) (eqb (e .kind) STRIKE)
   where
-    by : (a b : Bool) → isAdd (at (e .pos) (cond a (add (e .vals)) (cond b (strike (getD (e .vals) 0 0)) (change (e .kind) (to (getD (e .vals) 0 0)))))) ≡ a
+    by : (a b : Bool) → isAdd (editBy a b e) ≡ a
     by true b = refl
     by false true = refl
     by false false = refl
@@ -45,8 +53,8 @@ pub strike-kind : (e : Entry) → isStrike (editOf e) ≡ ofKind STRIKE e
 strike-kind e = by (eqb (e .kind) ADD) (eqb (e .kind) STRIKE) refl refl
   where
     by : (a b : Bool) → eqb (e .kind) ADD ≡ a → eqb (e .kind) STRIKE ≡ b
-        → isStrike (at (e .pos) (cond a (add (e .vals)) (cond b (strike (getD (e .vals) 0 0)) (change (e .kind) (to (getD (e .vals) 0 0)))))) ≡ b
-    by true true f g = absurd (omega (arith, eqb-true (e .kind) ADD f, eqb-true (e .kind) STRIKE g))
+        → isStrike (editBy a b e) ≡ b
+    by true true f g = absurd (one-kind (e .kind) f g)
     by true false f g = refl
     by false true f g = refl
     by false false f g = refl
@@ -63,7 +71,8 @@ after-trans (change j u) (change i v) (change l w) a b = lt-ltb j l (omega tests
 pub follows-trans : (d e f : Edit) → follows d e ≡ true → follows e f ≡ true → follows d f ≡ true
 follows-trans (at p d) (at s e) (at t f) a b = go (lex-cases p s (after d e) a) (lex-cases s t (after e f) b)
   where
-    go : (p < s) ⊎ ((p ≡ s) × (after d e ≡ true)) → (s < t) ⊎ ((s ≡ t) × (after e f ≡ true)) → follows (at p d) (at t f) ≡ true
+    go : (p < s) ⊎ ((p ≡ s) × (after d e ≡ true)) → (s < t) ⊎ ((s ≡ t) × (after e f ≡ true))
+        → follows (at p d) (at t f) ≡ true
     go (inl x) (inl y) = lex-lt p t (after d f) (omega arith)
     go (inl x) (inr y) = lex-lt p t (after d f) (omega (arith, y .0))
     go (inr x) (inl y) = lex-lt p t (after d f) (omega (arith, x .0))

@@ -1,11 +1,11 @@
 -- What holds at the head of the fit pass, and the ways on from there: one more entry, a stop, the end.
 -- Assumes nothing.
-use Prim.Native.Nat.{ℕ, suc, _+_, _*_, _-_, _≤_, _<_}
+use Prim.Native.Nat.{ℕ, _+_, _*_, _-_, _≤_, _<_}
 use native.Mathlib.Nat.{zero-add, sub-zero}
 use native.Mathlib.Omega.{arith}
-use mathlib.Core.Path.{_≡_, refl, sym, ap, _∙_}
-use mathlib.Core.Bool.{Bool, true, false}
-use mathlib.Core.List.{List, [], _∷_, map, List·Memᴰ as Mem, List·Memᴰ·head as mem-here, List·Memᴰ·tail as mem-next}
+use mathlib.Core.Path.{_≡_, refl, sym, _∙_}
+use mathlib.Core.Bool.{true, false}
+use mathlib.Core.List.{List, List·Memᴰ as Mem, List·Memᴰ·head as mem-here, List·Memᴰ·tail as mem-next}
 use lib.ListN.{length, getD}
 use Rattle.order.proofs.Members.{mem-map}
 use Rattle.model.specs.declared.Entry.{Entry}
@@ -13,7 +13,7 @@ use Rattle.model.specs.Layer.{rowsAfter}
 use Rattle.model.specs.Raw.{entryAt, entriesAt, entriesOf, editOf, layerOf}
 use Rattle.model.specs.Form.{sound}
 use Rattle.model.specs.Fit.{fitPlace}
-use Rattle.model.proofs.Raw.{start, here, next, rest-step}
+use Rattle.model.proofs.Raw.{start, next, rest-step}
 use Rattle.form.specs.InForm.{InForm}
 use Rattle.form.specs.Suit.{first, fitFrom}
 use Rattle.form.proofs.Looks.{fine, fit-step, fit-stop, fit-end}

@@ -1,12 +1,11 @@
--- Entries with their zeros are the numbers of their edits: a layer in form, written out, is the slice that it was read from.
+-- Entries with their zeros are the numbers of their edits: a layer in form, written out, is what it was read from.
 -- Assumes nothing.
 use Prim.Native.Nat.{ℕ, zero, suc, _+_, _*_, _-_, _≤_}
 use native.Mathlib.Nat.{suc-mul, zero-mul}
-use native.Mathlib.Numerals.{add-one}
 use native.Mathlib.Omega.{arith}
 use mathlib.Core.Path.{_≡_, refl, sym, ap, _∙_}
-use mathlib.Core.Bool.{Bool, true, false, cond, _||_}
-use mathlib.Core.List.{List, [], _∷_, _++_, map, List·Memᴰ as Mem, List·Memᴰ·head as here, List·Memᴰ·tail as next}
+use mathlib.Core.Bool.{Bool, true, false, _||_}
+use mathlib.Core.List.{List, [], _∷_, map, List·Memᴰ as Mem, List·Memᴰ·head as here, List·Memᴰ·tail as next}
 use lib.ListN.{length, getD, take, drop, replicate}
 use lib.Seq.{drop-cons, take-add, drop-drop}
 use lib.Dec.{eqb}
@@ -14,10 +13,9 @@ use borrow.Author.Tests.{eqb-true}
 use Rattle.order.specs.Lists.{all, gather}
 use Rattle.order.proofs.Tests.{and-l, and-r}
 use Rattle.model.specs.declared.Entry.{Entry}
-use Rattle.model.specs.Cell.{to}
-use Rattle.model.specs.Layer.{at, add, strike, change}
 use Rattle.model.specs.Raw.{ADD, STRIKE, entryAt, entriesAt, editOf, numbersOf}
 use Rattle.model.specs.Form.{zeros}
+use Rattle.form.proofs.ByKind.{editBy}
 use Rattle.form.proofs.Laws.{vals-length}
 
 all-zero : (vs : List ℕ) → all (λ v. eqb v 0) vs ≡ true → vs ≡ replicate (length vs) 0
@@ -28,22 +26,24 @@ all-zero (v ∷ vs) h =
     λ i. e i ∷ f i
 
 -- one value, then zeros
-first-zeros : (c : ℕ) (vs : List ℕ) → length vs ≡ c → 1 ≤ c → all (λ v. eqb v 0) (drop 1 vs) ≡ true → getD vs 0 0 ∷ replicate (c - 1) 0 ≡ vs
+first-zeros : (c : ℕ) (vs : List ℕ) → length vs ≡ c → 1 ≤ c → all (λ v. eqb v 0) (drop 1 vs) ≡ true
+    → getD vs 0 0 ∷ replicate (c - 1) 0 ≡ vs
 first-zeros c [] e l h = absurd (omega arith)
 first-zeros c (v ∷ vs) e l h =
     let f : c - 1 ≡ length vs = omega arith in
     rw f (ap (λ (t : List ℕ). v ∷ t) (sym (all-zero vs h)))
 
 -- the numbers of an entry with its zeros
-pub entry-numbers : (c : ℕ) (e : Entry) → length (e .vals) ≡ c → 1 ≤ c → zeros e ≡ true → numbersOf c (editOf e) ≡ e .pos ∷ e .kind ∷ e .vals
+pub entry-numbers : (c : ℕ) (e : Entry) → length (e .vals) ≡ c → 1 ≤ c → zeros e ≡ true
+    → numbersOf c (editOf e) ≡ e .pos ∷ e .kind ∷ e .vals
 entry-numbers c e l h z = by (eqb (e .kind) ADD) (eqb (e .kind) STRIKE) refl refl z
   where
     first : all (λ v. eqb v 0) (drop 1 (e .vals)) ≡ true → getD (e .vals) 0 0 ∷ replicate (c - 1) 0 ≡ e .vals
     first t = first-zeros c (e .vals) l h t
 
-    by : (a b : Bool) → eqb (e .kind) ADD ≡ a → eqb (e .kind) STRIKE ≡ b → (a || all (λ v. eqb v 0) (drop 1 (e .vals))) ≡ true
-        → numbersOf c (at (e .pos) (cond a (add (e .vals)) (cond b (strike (getD (e .vals) 0 0)) (change (e .kind) (to (getD (e .vals) 0 0))))))
-        ≡ e .pos ∷ e .kind ∷ e .vals
+    by : (a b : Bool) → eqb (e .kind) ADD ≡ a → eqb (e .kind) STRIKE ≡ b
+        → (a || all (λ v. eqb v 0) (drop 1 (e .vals))) ≡ true
+        → numbersOf c (editBy a b e) ≡ e .pos ∷ e .kind ∷ e .vals
     by true b f g t = ap (λ (k : ℕ). e .pos ∷ k ∷ e .vals) (sym (eqb-true (e .kind) ADD f))
     by false true f g t = λ i. e .pos ∷ (sym (eqb-true (e .kind) STRIKE g)) i ∷ first t i
     by false false f g t = ap (λ (vs : List ℕ). e .pos ∷ e .kind ∷ vs) (first t)
@@ -66,6 +66,7 @@ flat-entries c (suc k) from xs r h z =
     let w : suc k * (c + 2) ≡ (c + 2) + k * (c + 2) = omega (arith, suc-mul k (c + 2)) in
     let s : from + (c + 2) ≤ length xs = omega arith in
     let e : numbersOf c (editOf (entryAt c from xs)) ≡ take (c + 2) (drop from xs) =
-    entry-numbers c (entryAt c from xs) (vals-length c from xs s) h (z (entryAt c from xs) (here refl)) ∙ in-slice c from xs s in
+    entry-numbers c (entryAt c from xs) (vals-length c from xs s) h (z (entryAt c from xs) (here refl))
+    ∙ in-slice c from xs s in
     let f = flat-entries c k (from + (c + 2)) xs (omega arith) h (λ d m. z d (next m)) in
     rw (w, take-add, drop-drop, e, f)

@@ -8,7 +8,6 @@ use mathlib.Core.Logic.{⊎-elim}
 use mathlib.Core.Bool.{Bool, true, false, _&&_, true≢false}
 use mathlib.Core.List.{List, [], _∷_, map, List·Memᴰ as Mem, List·Memᴰ·head as here, List·Memᴰ·tail as next}
 use lib.ListN.{length}
-use lib.Dec.{ltb}
 use borrow.Author.Tests.{lt-ltb, le-ltb, ltb-true}
 use Rattle.order.specs.Lists.{one, count}
 use Rattle.order.proofs.Tests.{and-l, and-r, lex-cases}
@@ -16,7 +15,6 @@ use Rattle.order.proofs.Members.{map-mem}
 use Rattle.order.proofs.Counts.{count-le, count-map, count-same}
 use Rattle.order.proofs.Pairs.{AllPairs, Unbroken, unbroken, pairs-map}
 use Rattle.model.specs.declared.Entry.{Entry}
-use Rattle.model.specs.declared.Answer.{Answer}
 use Rattle.model.specs.declared.Answer.the-variants.{Done, Refused}
 use Rattle.model.specs.Layer.{Edit, at, add, strike, change, Layer, position, isAdd, isStrike, rowsAfter}
 use Rattle.model.specs.Raw.{ADD, STRIKE, editOf, entriesOf, layerOf}
@@ -41,18 +39,21 @@ pub past-strike : (s k : ℕ) (e : Edit) → follows (at s (strike k)) e ≡ tru
 past-strike s k (at p d) h = ⊎-elim (λ l. l) (λ w. absurd (true≢false (sym (w .1)))) (lex-cases s p false h)
 
 -- so strikes stand at different positions, all of them below n
-strikes-from : (c n b : ℕ) (L : Layer) → b ≤ n → ((e : Edit) → Mem e L → isStrike e ≡ true → b ≤ position e) → Formed c n L
-    → b + count isStrike L ≤ n
+strikes-from : (c n b : ℕ) (L : Layer) → b ≤ n → ((e : Edit) → Mem e L → isStrike e ≡ true → b ≤ position e)
+    → Formed c n L → b + count isStrike L ≤ n
 strikes-from c n b [] h f F = omega arith
-strikes-from c n b (at s (add r) ∷ L) h f F = omega (arith, strikes-from c n b L h (λ e m. f e (next m)) (rest (at s (add r)) F))
+strikes-from c n b (at s (add r) ∷ L) h f F =
+    omega (arith, strikes-from c n b L h (λ e m. f e (next m)) (rest (at s (add r)) F))
 strikes-from c n b (at s (strike k) ∷ L) h f F =
     omega (
       arith,
       f (at s (strike k)) (here refl) refl,
-      strikes-from c n (suc s) L (ltb-true s n (F .each (at s (strike k)) (here refl))) (λ e m t. past-strike s k e (F .pairs .0 e m))
+      strikes-from c n (suc s) L (ltb-true s n (F .each (at s (strike k)) (here refl)))
+          (λ e m t. past-strike s k e (F .pairs .0 e m))
           (rest (at s (strike k)) F),
     )
-strikes-from c n b (at s (change j u) ∷ L) h f F = omega (arith, strikes-from c n b L h (λ e m. f e (next m)) (rest (at s (change j u)) F))
+strikes-from c n b (at s (change j u) ∷ L) h f F =
+    omega (arith, strikes-from c n b L h (λ e m. f e (next m)) (rest (at s (change j u)) F))
 
 pub strikes-few : (c n : ℕ) (L : Layer) → Formed c n L → count isStrike L ≤ n
 strikes-few c n L F = omega (arith, strikes-from c n 0 L (omega arith) (λ e m h. omega arith) F)
@@ -83,7 +84,8 @@ pub count-kind : (k : ℕ) (f : Edit → Bool) → ((e : Entry) → f (editOf e)
 count-kind k f h es = sym (count-map editOf f es ∙ count-same (λ e. f (editOf e)) (ofKind k) es (λ e m. ap one (h e)))
 
 -- refusal 1
-pub args-refused : (c n m : ℕ) (xs : List ℕ) → argsOk c n m (length xs) ≡ false → Refused (refusal 1 0) ≡ formAnswer c n m xs
+pub args-refused : (c n m : ℕ) (xs : List ℕ) → argsOk c n m (length xs) ≡ false
+    → Refused (refusal 1 0) ≡ formAnswer c n m xs
 unfolding formAnswer
 args-refused c n m xs h = rw h
 
@@ -97,7 +99,8 @@ pub record Counted (c n m : ℕ) (xs : List ℕ) (a s : ℕ) : Type 0 where
 
 module _ (c n m : ℕ) (xs : List ℕ) (ok : argsOk c n m (length xs) ≡ true) where
   -- refusal 2, at the first entry at fault
-  pub place-refused : (p : ℕ) → p ≡ length (good c n (entriesOf c m xs)) → p < m → Refused (refusal 2 p) ≡ formAnswer c n m xs
+  pub place-refused : (p : ℕ) → p ≡ length (good c n (entriesOf c m xs)) → p < m
+      → Refused (refusal 2 p) ≡ formAnswer c n m xs
   unfolding formAnswer breaksForm
   place-refused p e h = rw (ok, ← place c n (entriesOf c m xs), ← e, lt-ltb p m h, zero-add)
 
@@ -122,22 +125,27 @@ module _ (c n m : ℕ) (xs : List ℕ) (ok : argsOk c n m (length xs) ≡ true) 
     few : s ≤ n
     unfolding layerOf
     few =
-        omega (arith, strikes, strikes-few c n (layerOf c m xs) (whole c n (entriesOf c m xs) (placed ∙ sym (entries-length c m 0 xs)) .formed))
+        let w = whole c n (entriesOf c m xs) (placed ∙ sym (entries-length c m 0 xs)) in
+        omega (arith, strikes, strikes-few c n (layerOf c m xs) (w .formed))
 
     -- refusal 2, for the row total
     total : 4096 + s < n + a → Refused (refusal 2 m) ≡ formAnswer c n m xs
     unfolding formAnswer breaksForm
     total l =
-        rw (ok, placed, le-ltb m m (omega arith), lt-ltb 4096 (rowsAfter n (layerOf c m xs)) (omega (arith, adds, strikes)), zero-add)
+        let t : 4096 < rowsAfter n (layerOf c m xs) = omega (arith, adds, strikes) in
+        rw (ok, placed, le-ltb m m (omega arith), lt-ltb 4096 (rowsAfter n (layerOf c m xs)) t, zero-add)
 
     accept : n + a ≤ 4096 + s → Done ((n + a) - s) ≡ formAnswer c n m xs
     unfolding formAnswer breaksForm
     accept l =
-        rw (ok, placed, le-ltb m m (omega arith), le-ltb 4096 (rowsAfter n (layerOf c m xs)) (omega (arith, adds, strikes)), adds, strikes)
+        let t : rowsAfter n (layerOf c m xs) ≤ 4096 = omega (arith, adds, strikes) in
+        rw (ok, placed, le-ltb m m (omega arith), le-ltb 4096 (rowsAfter n (layerOf c m xs)) t, adds, strikes)
 
     pub counted : Counted c n m xs a s
     counted = record {
-      few-adds = omega (arith, adds, count-le isAdd (layerOf c m xs), layer-length c m xs, args-held c n m xs ok .0 .entries);
+      few-adds =
+          let h = args-held c n m xs ok .0 in
+          omega (arith, adds, count-le isAdd (layerOf c m xs), layer-length c m xs, h .entries);
       few-strikes = few;
       base = args-held c n m xs ok .1;
       total = total;

@@ -1,24 +1,22 @@
 -- One step and the end of each loop of the form check, over the definitions of specs/Scan.antt.
 -- Assumes nothing.
-use Prim.Native.Nat.{ℕ, suc, _+_, _-_, _≤_, _<_}
-use native.Mathlib.Nat.{add-assoc}
+use Prim.Native.Nat.{ℕ, _+_, _-_, _≤_, _<_}
 use native.Mathlib.Numerals.{add-one}
 use native.Mathlib.Omega.{arith}
-use mathlib.Core.Path.{_≡_, refl, sym, ap, _∙_}
-use mathlib.Core.Bool.{Bool, true, false, cond, _&&_, _||_, and-true}
+use mathlib.Core.Path.{_≡_, refl}
+use mathlib.Core.Bool.{Bool, true, false, _&&_, _||_, and-true}
 use mathlib.Core.List.{List, [], _∷_}
 use lib.ListN.{length, getD, take, drop, drop-of-length-le, length-drop}
 use lib.Seq.{drop-cons, length-take-le}
 use lib.Dec.{leb, ltb, eqb}
 use borrow.Author.Tests.{eq-eqb}
-use Rattle.order.specs.Lists.{one, all, count}
+use Rattle.order.specs.Lists.{all}
 use Rattle.model.specs.declared.Entry.{Entry}
-use Rattle.model.specs.Cell.{to}
-use Rattle.model.specs.Layer.{at, strike, change}
 use Rattle.model.specs.Form.{sound}
 use Rattle.model.specs.Raw.{ADD, STRIKE, entryAt, entriesAt}
 use Rattle.model.proofs.Raw.{rest-step, rest-end}
 use Rattle.form.specs.Scan.{aloneGood, goodAfter, goodFrom}
+use Rattle.form.proofs.ByKind.{editBy}
 
 module _ (f : ℕ → Bool) (xs : List ℕ) (j : ℕ) where
   pub all-step : j < length xs → all f (drop j xs) ≡ (f (getD xs j 0) && all f (drop (j + 1) xs))
@@ -38,11 +36,12 @@ unfolding aloneGood
 alone-add c n e l h = rw (h, eq-eqb _ _ l, and-true)
 
 pub alone-other : (c n : ℕ) (e : Entry) → eqb (e .kind) ADD ≡ false
-    → aloneGood c n e ≡ (all (λ v. eqb v 0) (drop 1 (e .vals)) && (ltb (e .pos) n && (eqb (e .kind) STRIKE || (leb 1 (e .kind) && ltb (e .kind) c))))
+    → aloneGood c n e ≡ (all (λ v. eqb v 0) (drop 1 (e .vals))
+    && (ltb (e .pos) n && (eqb (e .kind) STRIKE || (leb 1 (e .kind) && ltb (e .kind) c))))
 unfolding aloneGood
 alone-other c n e h =
     rw h (elim (eqb (e .kind) STRIKE) as
-    (λ t. (all (λ v. eqb v 0) (drop 1 (e .vals)) && sound c n (at (e .pos) (cond t (strike (getD (e .vals) 0 0)) (change (e .kind) (to (getD (e .vals) 0 0))))))
+    (λ t. (all (λ v. eqb v 0) (drop 1 (e .vals)) && sound c n (editBy false t e))
     ≡ (all (λ v. eqb v 0) (drop 1 (e .vals)) && (ltb (e .pos) n && (t || (leb 1 (e .kind) && ltb (e .kind) c)))))
     [ true ↦ rw and-true | false ↦ refl ])
 
@@ -50,11 +49,13 @@ alone-other c n e h =
 module _ (c n m p q i from : ℕ) (xs : List ℕ) where
   pub good-step : i < m → goodAfter c n p q (entryAt c from xs) ≡ true
       → goodFrom c n p q (entriesAt c (m - i) from xs)
-      ≡ entryAt c from xs ∷ goodFrom c n (entryAt c from xs .pos) (entryAt c from xs .kind) (entriesAt c (m - (i + 1)) (from + (c + 2)) xs)
+      ≡ entryAt c from xs
+      ∷ goodFrom c n (entryAt c from xs .pos) (entryAt c from xs .kind) (entriesAt c (m - (i + 1)) (from + (c + 2)) xs)
   unfolding goodFrom
   good-step h b = rw (rest-step c m i from xs h, b)
 
-  pub good-stop : i < m → goodAfter c n p q (entryAt c from xs) ≡ false → goodFrom c n p q (entriesAt c (m - i) from xs) ≡ []
+  pub good-stop : i < m → goodAfter c n p q (entryAt c from xs) ≡ false
+      → goodFrom c n p q (entriesAt c (m - i) from xs) ≡ []
   unfolding goodFrom
   good-stop h b = rw (rest-step c m i from xs h, b)
 

@@ -1,13 +1,13 @@
+pub mod ByKind
 pub mod Laws
 pub mod Scanning
 pub mod Neighbours
-pub mod ByKind
 pub mod Place
 pub mod Formed
 pub mod Flat
+pub mod Answers
 pub mod Accepted
 pub mod Looks
 pub mod Ahead
 pub mod Fitting
-pub mod Answers
 pub mod Unique

@@ -3,8 +3,8 @@
 use Prim.Native.Nat.{ℕ, zero, suc, _+_, _-_, _≤_, _<_}
 use native.Mathlib.Numerals.{add-one}
 use native.Mathlib.Omega.{arith}
-use mathlib.Core.Path.{_≡_, refl, sym, ap, _∙_}
-use mathlib.Core.Bool.{Bool, true, false, cond, _&&_, _||_, or-false}
+use mathlib.Core.Path.{_≡_, refl, ap, _∙_}
+use mathlib.Core.Bool.{Bool, true, false, _&&_, _||_, or-false}
 use mathlib.Core.List.{List, [], _∷_}
 use lib.ListN.{length, getD, drop, drop-of-length-le}
 use lib.Seq.{drop-cons}
@@ -25,7 +25,8 @@ rising-start [] = refl
 rising-start (k ∷ K) = refl
 
 pub rising-step : (K : List ℕ) (i : ℕ) → i < length K
-    → rising (getD K (i - 1) 0) (drop i K) ≡ (ltb (getD K (i - 1) 0) (getD K i 0) && rising (getD K ((i + 1) - 1) 0) (drop (i + 1) K))
+    → rising (getD K (i - 1) 0) (drop i K)
+    ≡ (ltb (getD K (i - 1) 0) (getD K i 0) && rising (getD K ((i + 1) - 1) 0) (drop (i + 1) K))
 rising-step K i h =
     let e : (i + 1) - 1 ≡ i = omega arith in
     rw (e, add-one, drop-cons K i 0)
@@ -83,7 +84,8 @@ first-at c from xs h = value-at c from 0 xs h ∙ ap (λ (k : ℕ). getD xs k 0)
 -- The entries from number i of m on, the first of which stands at `from`.
 module _ (c m i from : ℕ) (xs : List ℕ) where
   pub ahead-step : (s : ℕ) → i < m → struckAhead s (entriesAt c (m - i) from xs)
-      ≡ (eqb (getD xs from 0) s && (eqb (getD xs (from + 1) 0) STRIKE || struckAhead s (entriesAt c (m - (i + 1)) (from + (c + 2)) xs)))
+      ≡ (eqb (getD xs from 0) s
+      && (eqb (getD xs (from + 1) 0) STRIKE || struckAhead s (entriesAt c (m - (i + 1)) (from + (c + 2)) xs)))
   unfolding struckAhead
   ahead-step s h = rw (rest-step c m i from xs h)
 
@@ -98,11 +100,13 @@ module _ (c m i from : ℕ) (xs : List ℕ) where
 
   pub fit-step : (K : List ℕ) (p q u : ℕ) → i < m → fine K p q u ≡ true
       → fitFrom K p q u (entriesAt c (m - i) from xs)
-      ≡ suc (fitFrom K (getD xs from 0) (getD xs (from + 1) 0) (first (entryAt c from xs)) (entriesAt c (m - (i + 1)) (from + (c + 2)) xs))
+      ≡ suc (fitFrom K (getD xs from 0) (getD xs (from + 1) 0) (first (entryAt c from xs))
+      (entriesAt c (m - (i + 1)) (from + (c + 2)) xs))
   unfolding fitFrom
   fit-step K p q u h b = rw (rest-step c m i from xs h, rw (rest-step c m i from xs h) at b)
 
-  pub fit-stop : (K : List ℕ) (p q u : ℕ) → i < m → fine K p q u ≡ false → fitFrom K p q u (entriesAt c (m - i) from xs) ≡ 0
+  pub fit-stop : (K : List ℕ) (p q u : ℕ) → i < m → fine K p q u ≡ false
+      → fitFrom K p q u (entriesAt c (m - i) from xs) ≡ 0
   unfolding fitFrom
   fit-stop K p q u h b = rw (rest-step c m i from xs h, rw (rest-step c m i from xs h) at b)
 

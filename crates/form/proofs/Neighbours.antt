@@ -3,7 +3,7 @@
 use Prim.Native.Nat.{ℕ, suc}
 use mathlib.Core.Path.{_≡_, refl, sym, ap, _∙_}
 use mathlib.Core.Logic.{⊎-elim}
-use mathlib.Core.Bool.{Bool, true, false, cond, _&&_, and-true}
+use mathlib.Core.Bool.{Bool, true, false, cond, _&&_}
 use mathlib.Core.List.{
   List,
   [],
@@ -17,7 +17,7 @@ use mathlib.Core.List.{
 use Rattle.order.specs.Lists.{all, leastBroken}
 use Rattle.order.proofs.Tests.{and-l, same-test}
 use Rattle.order.proofs.Members.{all-mem, all-of}
-use Rattle.order.proofs.Pairs.{AllPairs, Unbroken}
+use Rattle.order.proofs.Pairs.{Unbroken}
 
 -- where no element breaks a rule, none does with the first among the earlier ones
 pub unbroken-next : {A : Type 0} {sure : A → Bool} {G : A → A → Bool} {earlier : List A} (x : A) {xs : List A}
@@ -50,14 +50,16 @@ module _ {A : Type 0} (alone sure : A → Bool) (pair G : A → A → Bool)
   neighbours d ys [] h U = refl
   neighbours d ys (x ∷ xs) h U =
       by (alone x) (pair d x) refl same
-      (λ p. neighbours x (d ∷ ys) xs (λ y m. (U .past y x m (here refl), all-mem (λ z. pair z x) (d ∷ ys) (sym same ∙ p) y m)) (unbroken-next x U))
+      (λ p. neighbours x (d ∷ ys) xs
+      (λ y m. (U .past y x m (here refl), all-mem (λ z. pair z x) (d ∷ ys) (sym same ∙ p) y m)) (unbroken-next x U))
     where
       same : pair d x ≡ all (λ y. pair y x) (d ∷ ys)
       same = speaks d x ys h (U .past d x (here refl) (here refl))
 
       by : (a b : Bool) {u : Bool} → pair d x ≡ b → b ≡ u
           → (pair d x ≡ true → leastAfter alone pair x xs ≡ leastBroken alone pair (x ∷ d ∷ ys) xs)
-          → cond (a && b) (suc (leastAfter alone pair x xs)) 0 ≡ cond (a && u) (suc (leastBroken alone pair (x ∷ d ∷ ys) xs)) 0
+          → cond (a && b) (suc (leastAfter alone pair x xs)) 0
+          ≡ cond (a && u) (suc (leastBroken alone pair (x ∷ d ∷ ys) xs)) 0
       by false b e f ih = refl
       by true true e f ih = rw (← f) (ap suc (ih e))
       by true false e f ih = rw (← f)

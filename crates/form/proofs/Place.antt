@@ -2,22 +2,22 @@
 -- Assumes nothing.
 use Prim.Native.Nat.{ℕ, zero, suc, _≤_}
 use native.Mathlib.Omega.{arith}
-use mathlib.Core.Path.{_≡_, refl, sym, ap, _∙_}
+use mathlib.Core.Path.{_≡_, refl, ap, _∙_}
 use mathlib.Core.Bool.{Bool, true, false, cond, _&&_, _||_}
-use mathlib.Core.List.{List, [], _∷_, List·Memᴰ as Mem, List·Memᴰ·not-nil as not-nil}
+use mathlib.Core.List.{List, [], _∷_}
 use lib.ListN.{length}
 use lib.Dec.{ltb, eqb}
-use Rattle.order.proofs.Pairs.{AllPairs, Unbroken}
-use Rattle.order.proofs.Tests.{tests, lex-cases, lex-lt, lex-eq}
+use Rattle.order.proofs.Pairs.{AllPairs}
+use Rattle.order.proofs.Tests.{lex-lt}
 use Rattle.model.specs.declared.Entry.{Entry}
-use Rattle.model.specs.Layer.{at, add, Edit}
 use Rattle.model.specs.Raw.{ADD, editOf}
-use Rattle.model.specs.Form.{zeros, sound, follows, after, formPlace}
-use Rattle.form.specs.Scan.{aloneGood, goodAfter, goodFrom, good, followsKind}
+use Rattle.model.specs.Form.{zeros, sound, follows, formPlace}
+use Rattle.form.specs.Scan.{aloneGood, goodAfter, goodFrom, good}
 use Rattle.form.proofs.Neighbours.{leastAfter, from-start}
 use Rattle.form.proofs.ByKind.{follows-kind, follows-trans}
 
-step : (t : Bool) {u : Bool} (e : Entry) (es : List Entry) {k : ℕ} → t ≡ u → length es ≡ k → length (cond t (e ∷ es) []) ≡ cond u (suc k) 0
+step : (t : Bool) {u : Bool} (e : Entry) (es : List Entry) {k : ℕ} → t ≡ u → length es ≡ k
+    → length (cond t (e ∷ es) []) ≡ cond u (suc k) 0
 step true e es p q = rw (← p) (ap suc q)
 step false e es p q = rw (← p)
 

@@ -1,15 +1,13 @@
 -- What holds at the head of the form pass, and the ways on from there: one more entry, a stop, the end.
 -- Assumes nothing.
-use Prim.Native.Nat.{ℕ, suc, _+_, _*_, _-_, _≤_, _<_}
+use Prim.Native.Nat.{ℕ, _+_, _*_, _-_, _≤_, _<_}
 use native.Mathlib.Nat.{zero-add, sub-zero}
 use native.Mathlib.Omega.{arith}
-use mathlib.Core.Path.{_≡_, refl, sym, ap, _∙_}
+use mathlib.Core.Path.{_≡_, _∙_}
 use mathlib.Core.Bool.{Bool, true, false}
-use mathlib.Core.List.{List, [], _∷_}
+use mathlib.Core.List.{List, []}
 use lib.ListN.{length}
-use lib.Dec.{eqb}
 use Rattle.order.specs.Lists.{one, count}
-use Rattle.model.specs.declared.Entry.{Entry}
 use Rattle.model.specs.Raw.{ADD, STRIKE, entryAt, entriesAt, entriesOf, Held}
 use Rattle.model.proofs.Raw.{start, next}
 use Rattle.form.specs.Scan.{goodAfter, goodFrom, good, ofKind}
@@ -20,8 +18,10 @@ pub record Scanning (c n m : ℕ) (xs : List ℕ) (i from p q adds strikes : ℕ
   pub room : from + (m - i) * (c + 2) ≤ length xs
   pub within : i ≤ m
   pub placed : length (good c n (entriesOf c m xs)) ≡ i + length (goodFrom c n p q (entriesAt c (m - i) from xs))
-  pub added : count (ofKind ADD) (good c n (entriesOf c m xs)) ≡ adds + count (ofKind ADD) (goodFrom c n p q (entriesAt c (m - i) from xs))
-  pub struck : count (ofKind STRIKE) (good c n (entriesOf c m xs)) ≡ strikes + count (ofKind STRIKE) (goodFrom c n p q (entriesAt c (m - i) from xs))
+  pub added : count (ofKind ADD) (good c n (entriesOf c m xs))
+      ≡ adds + count (ofKind ADD) (goodFrom c n p q (entriesAt c (m - i) from xs))
+  pub struck : count (ofKind STRIKE) (good c n (entriesOf c m xs))
+      ≡ strikes + count (ofKind STRIKE) (goodFrom c n p q (entriesAt c (m - i) from xs))
   pub few-adds : adds ≤ i
   pub few-strikes : strikes ≤ i
 

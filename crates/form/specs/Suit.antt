@@ -1,5 +1,5 @@
--- The fit check as one pass: each entry is looked at alone, an add equal to a base key looks ahead for its strike, and after the one before it.
-use mathlib.Core.Bool.{Bool, true, false, not, cond, _&&_, _||_}
+-- The fit check as one pass: each entry is looked at alone, with a look ahead for a strike, and after the one before it.
+use mathlib.Core.Bool.{Bool, false, not, cond, _&&_, _||_}
 use mathlib.Core.List.{List, [], _∷_}
 use Prim.Native.Nat.{ℕ, suc}
 use lib.ListN.{length, getD}
@@ -31,8 +31,9 @@ suitsAhead K e es =
 abbrev pub risesKind : ℕ → ℕ → ℕ → ℕ → ℕ → ℕ → Bool
 risesKind p q u s k v = not (eqb p s) || (not (eqb q ADD) || (not (eqb k ADD) || ltb u v))
 
--- how many entries stand before the first that breaks a rule, where the one before the first is at p of kind q and first value u
+-- how many entries stand before the first that breaks a rule, after one at p of kind q and first value u
 unfoldable pub fitFrom : List ℕ → ℕ → ℕ → ℕ → List Entry → ℕ
 fitFrom K p q u [] = 0
 fitFrom K p q u (e ∷ es) =
-    cond (suitsAhead K e (e ∷ es) && risesKind p q u (e .pos) (e .kind) (first e)) (suc (fitFrom K (e .pos) (e .kind) (first e) es)) 0
+    cond (suitsAhead K e (e ∷ es) && risesKind p q u (e .pos) (e .kind) (first e))
+    (suc (fitFrom K (e .pos) (e .kind) (first e) es)) 0

@@ -1,9 +1,7 @@
 // One pass over the entries of a layer: the first that breaks a rule of form, and the adds and strikes before it.
 use model::Entry;
 ghost use mathlib.Core.Path.{_≡_};
-ghost use mathlib.Core.Bool.{_&&_, _||_};
-ghost use mathlib.Core.List.{List};
-ghost use Prim.Native.Nat.{ℕ, _+_, _≤_};
+ghost use Prim.Native.Nat.{_+_, _≤_};
 ghost use lib.ListN.{length, drop};
 ghost use lib.Dec.{eqb};
 ghost use Rattle.order.specs.Lists.{one, all, count};

@@ -9,7 +9,7 @@ ghost use Rattle.model.specs.Form.{sound};
 ghost use Rattle.model.specs.Fit.{above};
 ghost use Rattle.form.specs.Suit.{struckAhead, underAhead, suitsAhead, risesKind};
 
-// An add equal to the base key at s looks ahead: a strike stands among the entries at s, from entry i on, which stands from `from`.
+// An add equal to the base key at s looks ahead: a strike stands among the entries at s from entry i on, at `from`.
 fn strike_ahead(c: usize, m: usize, i: usize, from: usize, s: u64, layer: &[u64]) -> bool
     requires { ⌜ from + (m - i) * (c + 2) ≤ length (now layer) ⌝ }
     ensures { λ r. ⌜ r ≡ struckAhead s (entriesAt c (m - i) from (now (layer .entry))) ⌝ }

@@ -13,6 +13,7 @@ pub mod Column
 pub mod Origin
 pub mod Edited
 pub mod Joined
+pub mod Steps
 pub mod Examples
 pub mod Position
 pub mod Meaning

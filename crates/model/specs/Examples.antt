@@ -14,7 +14,7 @@ use Rattle.model.specs.Form.{keepsForm}
 use Rattle.model.specs.Fit.{fits}
 use Rattle.model.specs.Read.{read, keysAfter}
 use Rattle.model.specs.Position.{shift}
-use Rattle.model.specs.Edits.{addRow, strikeRow, changeRowNo}
+use Rattle.model.specs.Steps.{Step, adding, striking, stepOn}
 use Rattle.model.specs.Redo.{redo, onTable, combine}
 use Rattle.model.specs.Conflict.{Rule, ruleNumber, clash, conflict, conflictPlace}
 use Rattle.model.specs.Move.{move}
@@ -22,17 +22,6 @@ use Rattle.model.specs.Move.{move}
 -- base, c = 2
 abbrev pub four : Table
 four = (10 ∷ 1 ∷ []) ∷ (20 ∷ 2 ∷ []) ∷ (30 ∷ 4 ∷ []) ∷ (40 ∷ 8 ∷ []) ∷ []
-
--- one edit by an operator
-pub data Step : Type 0 where
-  adding : Row → Step
-  striking : ℕ → Step
-  changing : ℕ → ℕ → ℕ → Step
-
-abbrev pub takeStep : Step → Layer → Layer
-takeStep (adding r) L = addRow (keys four) r L
-takeStep (striking r) L = strikeRow (keys four) r L
-takeStep (changing r j v) L = changeRowNo (keys four) r j (to v) L
 
 pub data Example : Type 0 where
   -- edits from an empty layer: the layer that they leave, the table read through it
@@ -78,7 +67,7 @@ abbrev good : Table → Layer → Bool
 good T L = is T L L
 
 abbrev pub holds : Example → Bool
-holds (edits steps L T) = is four (inTurn takeStep steps []) L && sameRows (read four L) T
+holds (edits steps L T) = is four (inTurn (stepOn (keys four)) steps []) L && sameRows (read four L) T
 holds (shifts L ss zs) = good four L && allSigned L ss zs
 holds (passes X Y ps qs T) =
     good four X && good four Y && not (conflict X Y)

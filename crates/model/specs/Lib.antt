@@ -9,6 +9,7 @@ pub mod Read
 pub mod Position
 pub mod Edits
 pub mod Redo
+pub mod Steps
 pub mod Conflict
 pub mod Move
 pub mod Demand

@@ -19,7 +19,7 @@ use Rattle.model.specs.Calls.{formAnswer, shownColumn, readAnswer}
 use Rattle.form.proofs.Accepted.{Accepted, accepted}
 use Rattle.read.specs.Runs.{Readable}
 use Rattle.read.proofs.Ready.{ready}
-use Rattle.read.proofs.Rows.{rows-shown}
+use Rattle.read.proofs.Rows.{rows-formed}
 
 -- a refusal of the form is passed on
 abbrev andThen : Answer → Answer → Answer
@@ -28,7 +28,8 @@ andThen (Refused x) d = Refused x
 
 -- refusals 1 and 2 first, with the column number among the arguments
 form-first : (a b : Bool) (x y : Refusal) (k : ℕ) (d : Answer)
-    → cond (not (a && true)) (Refused x) (cond b (Refused y) d) ≡ andThen (cond (not a) (Refused x) (cond b (Refused y) (Done k))) d
+    → cond (not (a && true)) (Refused x) (cond b (Refused y) d)
+    ≡ andThen (cond (not a) (Refused x) (cond b (Refused y) (Done k))) d
 form-first true true x y k d = refl
 form-first true false x y k d = refl
 form-first false b x y k d = refl
@@ -37,18 +38,23 @@ module _ (c m : ℕ) (raw xs : List ℕ) (j len : ℕ) where
   abbrev rows : ℕ
   rows = length (shownColumn c m raw xs j)
 
+  -- the answer of an accepted form
+  abbrev roomAnswer : Answer
+  roomAnswer = cond (ltb len rows) (Refused (refusal 11 0)) (Done rows)
+
   pub column-refused : c ≤ j → Refused (refusal 1 0) ≡ readAnswer c m raw xs j len
   unfolding readAnswer
   column-refused h = rw (le-ltb j c h, and-false (argsOk c (length xs) m (length raw)))
 
-  after-form : j < c
-      → readAnswer c m raw xs j len ≡ andThen (formAnswer c (length xs) m raw) (cond (ltb len rows) (Refused (refusal 11 0)) (Done rows))
+  after-form : j < c → readAnswer c m raw xs j len ≡ andThen (formAnswer c (length xs) m raw) roomAnswer
   unfolding readAnswer formAnswer
   after-form h =
-      rw (lt-ltb j c h) (form-first (argsOk c (length xs) m (length raw)) (breaksForm c (length xs) m raw) _ _ (rowsAfter (length xs) (layerOf c m raw)) _)
+      rw (lt-ltb j c h)
+      (form-first (argsOk c (length xs) m (length raw)) (breaksForm c (length xs) m raw) _ _ (rowsAfter (length xs) (layerOf c m raw)) _)
 
-  pub form-refused : (x : Refusal) → j < c → formAnswer c (length xs) m raw ≡ Refused x → Refused x ≡ readAnswer c m raw xs j len
-  form-refused x h e = sym (after-form h ∙ ap (λ (a : Answer). andThen a (cond (ltb len rows) (Refused (refusal 11 0)) (Done rows))) e)
+  pub form-refused : (x : Refusal) → j < c → formAnswer c (length xs) m raw ≡ Refused x
+      → Refused x ≡ readAnswer c m raw xs j len
+  form-refused x h e = sym (after-form h ∙ ap (λ (a : Answer). andThen a roomAnswer) e)
 
   -- the form check counts the rows that are shown
   module _ (k : ℕ) (h : j < c) (e : formAnswer c (length xs) m raw ≡ Done k) where
@@ -56,10 +62,10 @@ module _ (c m : ℕ) (raw xs : List ℕ) (j len : ℕ) where
     took = accepted c (length xs) m raw k e
 
     pub counted : rows ≡ k
-    counted = rows-shown j xs (layerOf c m raw) (ready c (length xs) j (layerOf c m raw) (took .each) (took .pairs)) ∙ sym (took .shown)
+    counted = rows-formed c j xs (layerOf c m raw) (took .each) (took .pairs) ∙ sym (took .shown)
 
-    room-left : readAnswer c m raw xs j len ≡ cond (ltb len rows) (Refused (refusal 11 0)) (Done rows)
-    room-left = after-form h ∙ ap (λ (a : Answer). andThen a (cond (ltb len rows) (Refused (refusal 11 0)) (Done rows))) e
+    room-left : readAnswer c m raw xs j len ≡ roomAnswer
+    room-left = after-form h ∙ ap (λ (a : Answer). andThen a roomAnswer) e
 
     pub short : len < k → Refused (refusal 11 0) ≡ readAnswer c m raw xs j len
     short l = sym (room-left ∙ rw (lt-ltb len rows (omega (arith, counted))))
@@ -82,7 +88,8 @@ module _ (c m : ℕ) (raw xs : List ℕ) (j len : ℕ) where
     pub rows-are : length (shownColumn c m raw xs j) ≡ k
     pub within : k ≤ len
 
-  done-of : (f : Answer) → j < c → formAnswer c (length xs) m raw ≡ f → (k : ℕ) → readAnswer c m raw xs j len ≡ Done k → Finished k
+  done-of : (f : Answer) → j < c → formAnswer c (length xs) m raw ≡ f
+      → (k : ℕ) → readAnswer c m raw xs j len ≡ Done k → Finished k
   done-of (Refused x) h e k d = absurd (let q = form-refused x h e in let z : _≡_ {A = ℕ} 0 1 = cc in omega arith)
   done-of (Done l) h e k d = by (ltb len l) refl
     where

@@ -26,7 +26,8 @@ past p s d e n h = ⊎-elim (λ l. l) (λ w. absurd (n (w .1))) (lex-cases p s (
 past-strike : (p k : ℕ) (f : Edit) → follows (at p (strike k)) f ≡ true → p < position f
 past-strike p k (at s e) h = past p s (strike k) e (λ t. true≢false (sym t)) h
 
-past-change : (j p i : ℕ) (e : CellEdit) (f : Edit) → eqb j i ≡ true → touches j f ≡ true → follows (at p (change i e)) f ≡ true → p < position f
+past-change : (j p i : ℕ) (e : CellEdit) (f : Edit) → eqb j i ≡ true → touches j f ≡ true
+    → follows (at p (change i e)) f ≡ true → p < position f
 past-change j p i e (at s (add r)) g t h = past p s (change i e) (add r) (λ z. true≢false (sym z)) h
 past-change j p i e (at s (strike k)) g t h = past p s (change i e) (strike k) (λ z. true≢false (sym z)) h
 past-change j p i e (at s (change l d)) g t h =

@@ -4,17 +4,20 @@ use Prim.Native.Nat.{ℕ, suc, _+_, _-_, _≤_}
 use native.Mathlib.Omega.{arith}
 use mathlib.Core.Path.{_≡_, refl, ap}
 use mathlib.Core.Bool.{Bool, true, false, cond}
-use mathlib.Core.List.{List, [], _∷_, _++_}
+use mathlib.Core.List.{List, [], _∷_, _++_, List·Memᴰ as Mem}
 use lib.ListN.{length, getD, length-append, length-drop}
 use lib.Seq.{slice, length-slice}
 use lib.Dec.{eqb}
 use Rattle.order.specs.Lists.{count}
+use Rattle.order.proofs.Pairs.{AllPairs}
 use Rattle.model.specs.Row.{cell}
 use Rattle.model.specs.Cell.{done}
-use Rattle.model.specs.Layer.{add, strike, change, at, Layer, isAdd, isStrike, rowsAfter}
+use Rattle.model.specs.Layer.{add, strike, change, Edit, at, Layer, isAdd, isStrike, rowsAfter}
+use Rattle.model.specs.Form.{sound, follows}
 use Rattle.model.specs.Read.{readColumn}
 use Rattle.read.specs.Runs.{runsFrom, Ready}
 use Rattle.read.proofs.Same.{same}
+use Rattle.read.proofs.Ready.{ready}
 
 -- a run of base rows up to p, then the rest
 run-length : (s p : ℕ) (xs ys : List ℕ) → s ≤ p → p ≤ length xs → length (slice s p xs ++ ys) + s ≡ length ys + p
@@ -44,5 +47,11 @@ runs-length j s xs (at p (change i e) ∷ L) r =
         omega (arith, run-length s p xs (done e (getD xs p 0) ∷ runsFrom j (suc p) xs L) (r′ .0) k, f (r′ .2))
     by false h f g = omega (arith, g (r .1 h))
 
-pub rows-shown : (j : ℕ) (xs : List ℕ) (L : Layer) → Ready j (length xs) 0 L → length (readColumn j xs L) ≡ rowsAfter (length xs) L
+pub rows-shown : (j : ℕ) (xs : List ℕ) (L : Layer) → Ready j (length xs) 0 L
+    → length (readColumn j xs L) ≡ rowsAfter (length xs) L
 rows-shown j xs L r = omega (arith, ap length (same j xs L r), runs-length j 0 xs L r)
+
+-- of a layer that keeps form: each edit sound, any two in order
+pub rows-formed : (c j : ℕ) (xs : List ℕ) (L : Layer) → ((e : Edit) → Mem e L → sound c (length xs) e ≡ true) → AllPairs follows L
+    → length (readColumn j xs L) ≡ rowsAfter (length xs) L
+rows-formed c j xs L a f = rows-shown j xs L (ready c (length xs) j L a f)

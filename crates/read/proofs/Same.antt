@@ -1,4 +1,4 @@
--- Reading run by run is the reading rule, position by position: an edit that says nothing of a position changes nothing there.
+-- Reading run by run is the reading rule: an edit that says nothing of a position changes nothing there.
 -- Assumes nothing.
 use Prim.Native.Nat.{ℕ, zero, suc, _+_, _-_, _≤_, _<_}
 use native.Mathlib.Nat.{add-zero}
@@ -67,7 +67,8 @@ ready-later : (j n s : ℕ) (L : Layer) → Ready j n s L → Later j s L
 unfolding Ready Later
 ready-later j n s [] r = tt
 ready-later j n s (at p (add q) ∷ L) r = (λ w. r .0, later-less j s p L (r .0) (ready-later j n p L (r .2)))
-ready-later j n s (at p (strike k) ∷ L) r = (λ w. r .0, later-less j s (suc p) L (omega (arith, r .0)) (ready-later j n (suc p) L (r .2)))
+ready-later j n s (at p (strike k) ∷ L) r =
+    (λ w. r .0, later-less j s (suc p) L (omega (arith, r .0)) (ready-later j n (suc p) L (r .2)))
 ready-later j n s (at p (change i e) ∷ L) r =
     by (eqb j i) refl (λ z. ready-later j n (suc p) L z) (λ z. ready-later j n s L z)
   where
@@ -121,15 +122,17 @@ run j xs L zero s l h = rw (add-zero, slice-empty s xs)
 run j xs L (suc d) s l h =
     let e : s + suc d ≡ suc s + d = omega arith in
     let q = quiet j s L (later-less j (suc s) (s + suc d) L (omega arith) l) in
-    rw (drop-cons xs s 0 (omega arith), q .adds, q .strikes, q .changes (getD xs s 0), slice-cons s (s + suc d) xs 0 (omega arith) h, e)
+    let x = getD xs s 0 in
+    rw (drop-cons xs s 0 (omega arith), q .adds, q .strikes, q .changes x, slice-cons s (s + suc d) xs 0 (omega arith) h, e)
     (ap (λ (t : List ℕ). getD xs s 0 ∷ t) (run j xs L d (suc s) (subst (λ (n : ℕ). Later j n L) e l) (omega arith)))
 
-run-to : (j : ℕ) (xs : List ℕ) (L : Layer) (s p : ℕ) → s ≤ p → p ≤ length xs → Later j p L
-    → readColumnFrom j s (drop s xs) L ≡ slice s p xs ++ readColumnFrom j p (drop p xs) L
-run-to j xs L s p h k l =
+-- and then what the layer shows from p on
+run-then : (j : ℕ) (xs : List ℕ) (L : Layer) (s p : ℕ) (ys : List ℕ) → s ≤ p → p ≤ length xs → Later j p L
+    → readColumnFrom j p (drop p xs) L ≡ ys → slice s p xs ++ ys ≡ readColumnFrom j s (drop s xs) L
+run-then j xs L s p ys h k l q =
     let e : s + (p - s) ≡ p = omega arith in
-    subst (λ (t : ℕ). readColumnFrom j s (drop s xs) L ≡ slice s t xs ++ readColumnFrom j t (drop t xs) L) e
-    (run j xs L (p - s) s (subst (λ (t : ℕ). Later j t L) (sym e) l) (omega arith))
+    let r = run j xs L (p - s) s (subst (λ (t : ℕ). Later j t L) (sym e) l) (omega arith) in
+    sym (r ∙ ap (λ (t : ℕ). slice s t xs ++ readColumnFrom j t (drop t xs) L) e ∙ ap (λ (zs : List ℕ). slice s p xs ++ zs) q)
 
 bare : (j s : ℕ) (xs : List ℕ) → readColumnFrom j s xs [] ≡ xs
 bare j s [] = refl
@@ -149,37 +152,41 @@ module _ (j p : ℕ) (L : Layer) where
   at-strike k xs h l = rw (drop-cons xs p 0 h, eq-eqb p p refl, quiet j p L l .adds, behind (strike k) (drop (suc p) xs))
 
   at-change : (i : ℕ) (e : CellEdit) (xs : List ℕ) → eqb j i ≡ true → p < length xs → Later j (suc p) L
-      → readColumnFrom j p (drop p xs) (at p (change i e) ∷ L) ≡ done e (getD xs p 0) ∷ readColumnFrom j (suc p) (drop (suc p) xs) L
+      → readColumnFrom j p (drop p xs) (at p (change i e) ∷ L)
+      ≡ done e (getD xs p 0) ∷ readColumnFrom j (suc p) (drop (suc p) xs) L
   at-change i e xs t h l =
       let q = quiet j p L l in
-      rw (drop-cons xs p 0 h, behind (change i e) (drop (suc p) xs), eq-eqb p p refl, t, q .adds, q .strikes, q .changes (done e (getD xs p 0)))
+      let v = done e (getD xs p 0) in
+      rw (drop-cons xs p 0 h, behind (change i e) (drop (suc p) xs), eq-eqb p p refl, t, q .adds, q .strikes, q .changes v)
 
 -- run by run from s is the rule from s
-pub same-from : (j s : ℕ) (xs : List ℕ) (L : Layer) → Ready j (length xs) s L → runsFrom j s xs L ≡ readColumnFrom j s (drop s xs) L
+pub same-from : (j s : ℕ) (xs : List ℕ) (L : Layer) → Ready j (length xs) s L
+    → runsFrom j s xs L ≡ readColumnFrom j s (drop s xs) L
 unfolding runsFrom Ready Later
 same-from j s xs [] r = sym (bare j s (drop s xs))
 same-from j s xs (at p (add q) ∷ L) r =
     let l = ready-later j (length xs) p L (r .2) in
-    rw (same-from j p xs L (r .2))
-    (sym (run-to j xs (at p (add q) ∷ L) s p (r .0) (r .1) (λ w. omega arith, l) ∙ ap (λ (t : List ℕ). slice s p xs ++ t) (at-add j p L q (drop p xs))))
+    run-then j xs (at p (add q) ∷ L) s p (cell j q ∷ runsFrom j p xs L) (r .0) (r .1) (λ w. omega arith, l)
+    (at-add j p L q (drop p xs) ∙ rw (same-from j p xs L (r .2)))
 same-from j s xs (at p (strike k) ∷ L) r =
     let l = ready-later j (length xs) (suc p) L (r .2) in
-    rw (same-from j (suc p) xs L (r .2))
-    (sym (run-to j xs (at p (strike k) ∷ L) s p (r .0) (omega (arith, r .1)) (λ w. omega arith, later-less j p (suc p) L (omega arith) l)
-    ∙ ap (λ (t : List ℕ). slice s p xs ++ t) (at-strike j p L k xs (r .1) l)))
+    run-then j xs (at p (strike k) ∷ L) s p (runsFrom j (suc p) xs L) (r .0) (omega (arith, r .1))
+    (λ w. omega arith, later-less j p (suc p) L (omega arith) l)
+    (at-strike j p L k xs (r .1) l ∙ rw (same-from j (suc p) xs L (r .2)))
 same-from j s xs (at p (change i e) ∷ L) r =
     by (eqb j i) refl (λ z. same-from j (suc p) xs L z) (λ z. same-from j s xs L z)
   where
     by : (b : Bool) → eqb j i ≡ b
         → (Ready j (length xs) (suc p) L → runsFrom j (suc p) xs L ≡ readColumnFrom j (suc p) (drop (suc p) xs) L)
         → (Ready j (length xs) s L → runsFrom j s xs L ≡ readColumnFrom j s (drop s xs) L)
-        → cond b (slice s p xs ++ (done e (getD xs p 0) ∷ runsFrom j (suc p) xs L)) (runsFrom j s xs L) ≡ readColumnFrom j s (drop s xs) (at p (change i e) ∷ L)
+        → cond b (slice s p xs ++ (done e (getD xs p 0) ∷ runsFrom j (suc p) xs L)) (runsFrom j s xs L)
+        ≡ readColumnFrom j s (drop s xs) (at p (change i e) ∷ L)
     by true h f g =
         let r′ = r .0 h in
         let l = ready-later j (length xs) (suc p) L (r′ .2) in
-        rw (f (r′ .2))
-        (sym (run-to j xs (at p (change i e) ∷ L) s p (r′ .0) (omega (arith, r′ .1)) (λ w. omega arith, later-less j p (suc p) L (omega arith) l)
-        ∙ ap (λ (t : List ℕ). slice s p xs ++ t) (at-change j p L i e xs h (r′ .1) l)))
+        run-then j xs (at p (change i e) ∷ L) s p (done e (getD xs p 0) ∷ runsFrom j (suc p) xs L) (r′ .0) (omega (arith, r′ .1))
+        (λ w. omega arith, later-less j p (suc p) L (omega arith) l)
+        (at-change j p L i e xs h (r′ .1) l ∙ rw (f (r′ .2)))
     by false h f g = g (r .1 h) ∙ sym (without j (at p (change i e)) L s (drop s xs) (λ q z. silent-other j q p i e h))
 
 pub same : (j : ℕ) (xs : List ℕ) (L : Layer) → Ready j (length xs) 0 L → runsFrom j 0 xs L ≡ readColumn j xs L

@@ -1,4 +1,4 @@
--- A list is written to a buffer piece by piece from the front: what is written so far stands in front, the rest is as it was.
+-- A list written to a buffer piece by piece: what is written stands in front, the rest is as it was.
 -- Assumes nothing.
 use Prim.Native.Nat.{ℕ, zero, suc, _+_, _-_, _≤_}
 use native.Mathlib.Nat.{sub-zero, zero-sub, suc-sub-suc}
@@ -44,12 +44,14 @@ wrote-one ys d new o r v w h =
     record {
       end = omega (arith, w .end);
       numbers =
-          copy-more new d zs o (length ys) r v (w .end) (w .numbers ∙ q) (omega arith) (omega arith) (sym (getD-append-seam ys v [] 0))
+          copy-more new d zs o (length ys) r v (w .end) (w .numbers ∙ q) (omega arith) (omega arith)
+          (sym (getD-append-seam ys v [] 0))
           ∙ ap (paste d o zs) (sym l);
     }
 
 -- what is left to write begins with ys: there is room for it
-pub room : (t d ys rest : List ℕ) (o : ℕ) → t ≡ take o d ++ (ys ++ rest) → length t ≤ length d → o ≤ length d → o + length ys ≤ length d
+pub room : (t d ys rest : List ℕ) (o : ℕ) → t ≡ take o d ++ (ys ++ rest) → length t ≤ length d → o ≤ length d
+    → o + length ys ≤ length d
 room t d ys rest o e h k =
     omega (arith, ap length e, length-append (take o d) (ys ++ rest), length-append ys rest, length-take-le o d k)
 
@@ -60,8 +62,8 @@ pub record Front (t d₀ : List ℕ) (o : ℕ) (d rest : List ℕ) : Type 0 wher
   pub kept : drop o d ≡ drop o d₀
   pub split : t ≡ take o d ++ rest
 
-pub front-more : (t d₀ d new ys rest : List ℕ) (o r : ℕ) → length t ≤ length d₀ → Front t d₀ o d (ys ++ rest) → Wrote ys d o r new
-    → Front t d₀ r new rest
+pub front-more : (t d₀ d new ys rest : List ℕ) (o r : ℕ) → length t ≤ length d₀ → Front t d₀ o d (ys ++ rest)
+    → Wrote ys d o r new → Front t d₀ r new rest
 front-more t d₀ d new ys rest o r f g w =
     let h : o + length ys ≤ length d = room t d ys rest o (g .split) (omega (arith, g .size)) (g .done) in
     let l = length-paste d o ys (length ys) h (omega arith) in
@@ -75,7 +77,13 @@ front-more t d₀ d new ys rest o r f g w =
           ∙ ap (drop (length ys)) (g .kept)
           ∙ drop-drop (length ys) o d₀);
       split =
-          rw (w .end, w .numbers, take-paste d o ys (length ys) (g .done) (omega arith), take-length ys, append-assoc (take o d) ys rest) (g .split);
+          rw (
+            w .end,
+            w .numbers,
+            take-paste d o ys (length ys) (g .done) (omega arith),
+            take-length ys,
+            append-assoc (take o d) ys rest,
+          ) (g .split);
     }
 
 -- all is written

@@ -96,7 +96,7 @@ pub fn answer(c: usize, m: usize, layer: &[u64], base: &[u64], j: usize, len: us
     }
 }
 
-// Reads column j of the base through the layer of m entries: writes it to the front of the buffer, and answers the row count.
+// Reads column j of the base through the layer of m entries: writes it to the buffer's front, and answers the row count.
 pub fn read(c: usize, m: usize, layer: &[u64], base: &[u64], j: usize, out: &mut [u64]) -> Answer
     ensures { λ r. ⌜ (r ≡ readAnswer c m (now (layer .entry)) (now (base .entry)) j (length (now (out .entry))))
         × (now (out .exit) ≡ written r (shownColumn c m (now (layer .entry)) (now (base .entry)) j) (now (out .entry))) ⌝ }

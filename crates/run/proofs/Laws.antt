@@ -1,4 +1,4 @@
--- The laws of a run pasted into a list: one more number of it, what stands before and after it, and a run behind another.
+-- A run pasted into a list: one more number of it, what stands before and after it, a run behind another.
 -- Assumes nothing.
 use Prim.Native.Nat.{ℕ, suc, _+_, _-_, _≤_, _<_}
 use native.Mathlib.Numerals.{add-one}
@@ -24,7 +24,8 @@ paste-whole d s n e h =
 -- a part of a list that has become s, put back
 pub put-back : (d s t : List ℕ) (at : ℕ) → t ≡ s → putMid at (at + length s - at) d t ≡ paste d at s (length s)
 put-back d s t at e =
-    rw (e, post-is at (at + length s) d (omega arith), take-length s) (sym (append-assoc (take at d) s (drop (at + length s) d)))
+    rw (e, post-is at (at + length s) d (omega arith), take-length s)
+    (sym (append-assoc (take at d) s (drop (at + length s) d)))
 
 -- a number before the run, and one past it
 pub before-paste : (d s : List ℕ) (at n i : ℕ) → i < at → at ≤ length d → getD (paste d at s n) i 0 ≡ getD d i 0
@@ -34,7 +35,8 @@ before-paste d s at n i h k =
     ∙ List·getD-append (take at d) (take n s) 0 i (omega arith)
     ∙ getD-take at d i 0 h
 
-pub past-paste : (d s : List ℕ) (at n i : ℕ) → at + n ≤ i → at ≤ length d → n ≤ length s → getD (paste d at s n) i 0 ≡ getD d i 0
+pub past-paste : (d s : List ℕ) (at n i : ℕ) → at + n ≤ i → at ≤ length d → n ≤ length s
+    → getD (paste d at s n) i 0 ≡ getD d i 0
 past-paste d s at n i h k l =
     let e : i ≡ at + n + (i - (at + n)) = omega arith in
     rw e (sym (getD-drop (at + n) (paste d at s n) (i - (at + n)) 0)
@@ -81,7 +83,8 @@ module _ (xs : List ℕ) (i b w : ℕ) (h : i < b) (r : b + w ≤ length xs) whe
       → set ys (i + w) (getD ys i 0) ≡ paste xs (i + w) (drop i xs) (b - i)
   up-step ys e =
       let low : getD ys i 0 ≡ getD xs i 0 =
-      ap (λ (l : List ℕ). getD l i 0) e ∙ before-paste xs (drop (i + 1) xs) (i + 1 + w) (b - (i + 1)) i (omega arith) (omega arith) in
+      ap (λ (l : List ℕ). getD l i 0) e
+      ∙ before-paste xs (drop (i + 1) xs) (i + 1 + w) (b - (i + 1)) i (omega arith) (omega arith) in
       ap (set ys (i + w)) low
       ∙ ap (λ (l : List ℕ). set l (i + w) (getD xs i 0)) (e ∙ split)
       ∙ set-at (take (i + w) xs) _ _ _ (i + w) (length-take-le (i + w) xs (omega arith))
@@ -95,7 +98,8 @@ up-more ys xs k b w h l r e =
     up-step xs (k - 1) b w (omega arith) r ys (e ∙ ap (λ (n : ℕ). paste xs (n + w) (drop n xs) (b - n)) q)
 
 -- a run moved down, the first number first
-pub down-more : (ys xs : List ℕ) (a k b w : ℕ) → w ≤ a → a ≤ k → k < b → b ≤ length xs → ys ≡ paste xs (a - w) (drop a xs) (k - a)
+pub down-more : (ys xs : List ℕ) (a k b w : ℕ) → w ≤ a → a ≤ k → k < b → b ≤ length xs
+    → ys ≡ paste xs (a - w) (drop a xs) (k - a)
     → set ys (k - w) (getD ys k 0) ≡ paste xs (a - w) (drop a xs) (k + 1 - a)
 down-more ys xs a k b w h i l r e =
     let d = length-drop a xs in

@@ -36,7 +36,8 @@ rising c = sym (c .before .keys-ascend .ensures) ∙ not-false _ (c .if1 .left)
 
 returns : tie.Need-returns
 returns c =
-    keys-refused _ _ _ _ _ (formed (c .before .before)) (sym (c .before .keys-ascend .ensures) ∙ not-true _ (c .if1 .taken))
+    keys-refused _ _ _ _ _ (formed (c .before .before))
+    (sym (c .before .keys-ascend .ensures) ∙ not-true _ (c .if1 .taken))
 
 fit-place-requires : tie.Need-fit-place-requires
 fit-place-requires c κs = in-form _ _ _ _ _ (formed (c .before .before))
@@ -54,7 +55,8 @@ returns-3 c =
 returns-4 : tie.Need-returns-4
 returns-4 c =
     let e = c .before .before in
-    fit-accepted _ _ _ _ _ (formed (e .before .before)) (rising e) (omega (arith, c .if2 .left, c .before .fit-place .ensures))
+    fit-accepted _ _ _ _ _ (formed (e .before .before)) (rising e)
+    (omega (arith, c .if2 .left, c .before .fit-place .ensures))
 
 pub fit-spec : {M : Type 1} → statement M
 fit-spec =

@@ -24,7 +24,8 @@ room : (c : tie.In-loop Inv-loop μ-loop) →
     c .before .loop .at + (a .c + 2) ≤ length (a .layer .now)
 room c =
     let a = c .before .before .before .before .args in
-    here (a .c) (a .m) (c .before .loop .i) (c .before .loop .at) (length (a .layer .now)) (c .loop-test .taken) (c .before .loop .inv .room)
+    let l = c .before .loop in
+    here (a .c) (a .m) (l .i) (l .at) (length (a .layer .now)) (c .loop-test .taken) (l .inv .room)
 
 -- what the two tests of a turn say together
 judged : (c : tie.After-rises Inv-loop μ-loop) →
@@ -35,7 +36,8 @@ judged : (c : tie.After-rises Inv-loop μ-loop) →
 judged c =
     let l = c .before .before .before .before .before .before in
     let a = l .before .before .before .args in
-    rw (c .before .suits-keys .ensures, c .rises .ensures, first-at (a .c) (l .loop .at) (a .layer .now) (l .loop .inv .some))
+    let f = first-at (a .c) (l .loop .at) (a .layer .now) (l .loop .inv .some) in
+    rw (c .before .suits-keys .ensures, c .rises .ensures, f)
 
 loop-holds : tie.Need-loop-holds Inv-loop μ-loop
 loop-holds c = begin _ _ _ _ (c .before .before .pre)
@@ -62,7 +64,9 @@ mul-v : tie.Need-mul-v Inv-loop μ-loop
 mul-v c = omega (arith, room (c .before .before), c .before .before .before .loop .inv .some)
 
 shared-slice-read-v : tie.Need-shared-slice-read-v Inv-loop μ-loop
-shared-slice-read-v c = omega (arith, room (c .before .before .before), c .before .before .before .before .loop .inv .some)
+shared-slice-read-v c =
+    let t = c .before .before .before in
+    omega (arith, room t, t .before .loop .inv .some)
 
 suits-keys-requires : tie.Need-suits-keys-requires Inv-loop μ-loop
 suits-keys-requires c κs =

@@ -1,4 +1,4 @@
--- The loop over the entries keeps `Going`: each kind of entry has its law there, and the rest of the base is shown at the end.
+-- The loop over the entries keeps `Going`, whose laws say what each kind of entry does; then the rest of the base is shown.
 -- Assumes nothing.
 use native.Mathlib.Omega.{arith}
 use Prim.Native.Nat.{_+_, _-_, _<_}
@@ -140,14 +140,16 @@ show-rows-and-requires-2 : tie.Need-show-rows-and-requires-2 Inv-loop μ-loop
 show-rows-and-requires-2 c κs =
     let t = c .before in
     let d = t .before .before .before in
-    let w = on-change (head d .loop .inv) (inside d) (met d) (t .before .before .if1 .left) (t .before .if2 .left) (t .if3 .taken) in
-    (w .0, omega (arith, w .1), fitting (head d .loop .inv) (inside d) (w .2))
+    let g = head d .loop .inv in
+    let w = on-change g (inside d) (met d) (t .before .before .if1 .left) (t .before .if2 .left) (t .if3 .taken) in
+    (w .0, omega (arith, w .1), fitting g (inside d) (w .2))
 
 add-s-2 : tie.Need-add-s-2 Inv-loop μ-loop
 add-s-2 c =
     let t = c .before .before .before .before in
     let d = t .before .before .before in
-    let w = on-change (head d .loop .inv) (inside d) (met d) (t .before .before .if1 .left) (t .before .if2 .left) (t .if3 .taken) in
+    let g = head d .loop .inv in
+    let w = on-change g (inside d) (met d) (t .before .before .if1 .left) (t .before .if2 .left) (t .if3 .taken) in
     omega (arith, w .1, entered d .good .1 .1 .1 .0)
 
 loop-less-3 : tie.Need-loop-less-3 Inv-loop μ-loop
@@ -157,8 +159,9 @@ loop-again-3 : tie.Need-loop-again-3 Inv-loop μ-loop
 loop-again-3 c =
     let t = c .before .before .before .before in
     let d = t .before .before .before in
-    let w = on-change (head d .loop .inv) (inside d) (met d) (t .before .before .if1 .left) (t .before .if2 .left) (t .if3 .taken) in
-    passed (head d .loop .inv) (inside d) (w .2) (c .before .before .show-rows-and2 .ensures)
+    let g = head d .loop .inv in
+    let w = on-change g (inside d) (met d) (t .before .before .if1 .left) (t .before .if2 .left) (t .if3 .taken) in
+    passed g (inside d) (w .2) (c .before .before .show-rows-and2 .ensures)
 
 -- a change of another column
 loop-less-4 : tie.Need-loop-less-4 Inv-loop μ-loop
@@ -167,8 +170,9 @@ loop-less-4 c = omega (arith, inside (c .before .before .before))
 loop-again-4 : tie.Need-loop-again-4 Inv-loop μ-loop
 loop-again-4 c =
     let d = c .before .before .before in
-    let w = on-other (head d .loop .inv) (inside d) (met d) (c .before .before .if1 .left) (c .before .if2 .left) (c .if3 .left) in
-    passed (head d .loop .inv) (inside d) w (wrote-none _ _)
+    let g = head d .loop .inv in
+    let w = on-other g (inside d) (met d) (c .before .before .if1 .left) (c .before .if2 .left) (c .if3 .left) in
+    passed g (inside d) w (wrote-none _ _)
 
 -- the rest of the base
 show-rows-requires-2 : tie.Need-show-rows-requires-2 Inv-loop μ-loop

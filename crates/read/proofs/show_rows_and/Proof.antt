@@ -17,7 +17,8 @@ both : (c : tie.Start) → let a = c .args in
 both c = let a = c .args in length-append (slice (a .s) (a .p) (a .base .now)) (a .v ∷ [])
 
 -- there is room behind the run
-behind : (c : tie.After-slice-known2) → c .before .before .show-rows .result < length (c .before .before .show-rows .last .1 .1 .1 .0)
+behind : (c : tie.After-slice-known2)
+    → let f = c .before .before .show-rows in f .result < length (f .last .1 .1 .1 .0)
 behind c =
     let f = c .before .before .show-rows in
     let b = c .before .before .before .before .before .before in
@@ -29,7 +30,9 @@ show-rows-requires c κs =
     (b .pre .0, b .pre .1, omega (arith, both b, b .pre .2))
 
 mul-out : tie.Need-mul-out
-mul-out c = let b = c .before .before .before .before .before .before in omega (arith, behind c, c .before .before .show-rows .kept .1 .1 .1 .0, b .good)
+mul-out c =
+    let b = c .before .before .before .before .before .before in
+    omega (arith, behind c, c .before .before .show-rows .kept .1 .1 .1 .0, b .good)
 
 slice-write-out : tie.Need-slice-write-out
 slice-write-out c = behind c
@@ -45,7 +48,8 @@ returns c =
     let f = c .before .before .show-rows in
     let b = c .before .before .before .before .before .before in
     let a = b .args in
-    wrote-one (slice (a .s) (a .p) (a .base .now)) (a .out .now) (f .last .1 .1 .1 .0) (a .o) (f .result) (a .v) (f .ensures) (b .pre .2)
+    let ys = slice (a .s) (a .p) (a .base .now) in
+    wrote-one ys (a .out .now) (f .last .1 .1 .1 .0) (a .o) (f .result) (a .v) (f .ensures) (b .pre .2)
 
 pub show-rows-and-spec : {M : Type 1} → statement M
 show-rows-and-spec =

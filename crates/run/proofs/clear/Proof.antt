@@ -12,7 +12,8 @@ use Rattle.run.proofs.clear.Statement.{statement}
 use Rattle.run.proofs.clear.Tie as tie
 
 abbrev Inv-loop : tie.InvT-loop
-Inv-loop a b layer₀ k₀ layer k = (a ≤ k) × (k ≤ b) × (length layer ≡ length layer₀) × (layer ≡ paste layer₀ a (replicate (b - a) 0) (k - a))
+Inv-loop a b layer₀ k₀ layer k =
+    (a ≤ k) × (k ≤ b) × (length layer ≡ length layer₀) × (layer ≡ paste layer₀ a (replicate (b - a) 0) (k - a))
 
 abbrev μ-loop : tie.MeasureT-loop
 μ-loop a b layer₀ k₀ layer k = b - k
@@ -43,8 +44,12 @@ loop-again c =
     let q : k - a .a + 1 ≡ k + 1 - a .a = omega arith in
     let more =
     copy-more (l .loop .layer) (a .layer .now) (replicate (a .b - a .a) 0) (a .a) (k - a .a) k 0 (omega arith)
-    (l .loop .inv .3) (omega arith) (omega arith) (sym (getD-replicate (a .b - a .a) (k - a .a) 0 0 (omega arith))) in
-    (omega arith, omega arith, simp length-set (l .loop .inv .2), more ∙ ap (paste (a .layer .now) (a .a) (replicate (a .b - a .a) 0)) q)
+    (l .loop .inv .3) (omega arith) (omega arith) (sym (getD-replicate (a .b - a .a) (k - a .a) 0 0 (omega arith))) in (
+      omega arith,
+      omega arith,
+      simp length-set (l .loop .inv .2),
+      more ∙ ap (paste (a .layer .now) (a .a) (replicate (a .b - a .a) 0)) q,
+    )
 
 same-length : tie.Need-same-length Inv-loop μ-loop
 same-length c = c .before .loop .inv .2

@@ -11,7 +11,8 @@ use Rattle.run.proofs.copy_same.Statement.{statement}
 use Rattle.run.proofs.copy_same.Tie as tie
 
 abbrev Inv-loop : tie.InvT-loop
-Inv-loop src dst₀ k₀ k-end dst k = (k-end ≡ length src) × (k ≤ length src) × (length dst ≡ length dst₀) × (dst ≡ paste dst₀ 0 src k)
+Inv-loop src dst₀ k₀ k-end dst k =
+    (k-end ≡ length src) × (k ≤ length src) × (length dst ≡ length dst₀) × (dst ≡ paste dst₀ 0 src k)
 
 abbrev μ-loop : tie.MeasureT-loop
 μ-loop src dst₀ k₀ k-end dst k = length src - k
@@ -44,7 +45,8 @@ loop-again c =
       l .loop .inv .0,
       omega arith,
       simp length-set (l .loop .inv .2),
-      copy-more (l .loop .dst) (a .dst .now) (a .src .now) 0 (l .loop .k) (l .loop .k) _ (omega arith) (l .loop .inv .3) (omega arith) (omega arith) refl,
+      copy-more (l .loop .dst) (a .dst .now) (a .src .now) 0 (l .loop .k) (l .loop .k) _
+          (omega arith) (l .loop .inv .3) (omega arith) (omega arith) refl,
     )
 
 same-length : tie.Need-same-length Inv-loop μ-loop

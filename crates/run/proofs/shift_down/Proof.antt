@@ -12,7 +12,8 @@ use Rattle.run.proofs.shift_down.Statement.{statement}
 use Rattle.run.proofs.shift_down.Tie as tie
 
 abbrev Inv-loop : tie.InvT-loop
-Inv-loop a b w layer₀ k₀ layer k = (a ≤ k) × (k ≤ b) × (length layer ≡ length layer₀) × (layer ≡ paste layer₀ (a - w) (drop a layer₀) (k - a))
+Inv-loop a b w layer₀ k₀ layer k =
+    (a ≤ k) × (k ≤ b) × (length layer ≡ length layer₀) × (layer ≡ paste layer₀ (a - w) (drop a layer₀) (k - a))
 
 abbrev μ-loop : tie.MeasureT-loop
 μ-loop a b w layer₀ k₀ layer k = b - k
@@ -51,7 +52,8 @@ loop-again c =
       omega arith,
       omega arith,
       simp length-set (l .loop .inv .2),
-      down-more (l .loop .layer) (a .layer .now) (a .a) (l .loop .k) (a .b) (a .w) (pre .0) (l .loop .inv .0) (omega arith) (pre .2) (l .loop .inv .3),
+      down-more (l .loop .layer) (a .layer .now) (a .a) (l .loop .k) (a .b) (a .w)
+          (pre .0) (l .loop .inv .0) (omega arith) (pre .2) (l .loop .inv .3),
     )
 
 same-length : tie.Need-same-length Inv-loop μ-loop

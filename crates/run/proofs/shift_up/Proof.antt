@@ -12,7 +12,8 @@ use Rattle.run.proofs.shift_up.Statement.{statement}
 use Rattle.run.proofs.shift_up.Tie as tie
 
 abbrev Inv-loop : tie.InvT-loop
-Inv-loop a b w layer₀ k₀ layer k = (a ≤ k) × (k ≤ b) × (length layer ≡ length layer₀) × (layer ≡ paste layer₀ (k + w) (drop k layer₀) (b - k))
+Inv-loop a b w layer₀ k₀ layer k =
+    (a ≤ k) × (k ≤ b) × (length layer ≡ length layer₀) × (layer ≡ paste layer₀ (k + w) (drop k layer₀) (b - k))
 
 abbrev μ-loop : tie.MeasureT-loop
 μ-loop a b w layer₀ k₀ layer k = k - a
@@ -50,7 +51,8 @@ loop-again c =
       omega arith,
       omega arith,
       simp length-set (l .loop .inv .2),
-      up-more (l .loop .layer) (a .layer .now) (l .loop .k) (a .b) (a .w) (omega arith) (l .loop .inv .1) (l .before .pre .1) (l .loop .inv .3),
+      up-more (l .loop .layer) (a .layer .now) (l .loop .k) (a .b) (a .w)
+          (omega arith) (l .loop .inv .1) (l .before .pre .1) (l .loop .inv .3),
     )
 
 same-length : tie.Need-same-length Inv-loop μ-loop

@@ -28,7 +28,8 @@ returns c =
     let s = c .before .before .before .before in
     let a = s .args in
     let xs = a .layer .now in
-    rw (alone-add (a .c) (a .n) (entryAt (a .c) (a .at) xs) (vals-length (a .c) (a .at) xs (s .pre)) (eq-eqb _ _ (c .if1 .taken)))
+    let l = vals-length (a .c) (a .at) xs (s .pre) in
+    rw (alone-add (a .c) (a .n) (entryAt (a .c) (a .at) xs) l (eq-eqb _ _ (c .if1 .taken)))
 
 add-a : tie.Need-add-a
 add-a c = search needs
@@ -56,7 +57,8 @@ returns-2 c =
     let s = c .before .before .before .before .before .before in
     let a = s .args in
     let xs = a .layer .now in
-    rw (alone-other (a .c) (a .n) (entryAt (a .c) (a .at) xs) (ne-eqb _ _ (c .before .before .if1 .left))) (simp (c .tail-zero .ensures, add-sub-cancel-left))
+    rw (alone-other (a .c) (a .n) (entryAt (a .c) (a .at) xs) (ne-eqb _ _ (c .before .before .if1 .left)))
+    (simp (c .tail-zero .ensures, add-sub-cancel-left))
 
 pub alone-good-spec : {M : Type 1} → statement M
 alone-good-spec =

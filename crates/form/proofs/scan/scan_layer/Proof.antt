@@ -3,9 +3,9 @@
 use borrow.Author.Needs.{needs}
 use borrow.Author.Tests.{not-true, not-false}
 use native.Mathlib.Omega.{arith}
-use mathlib.Core.Path.{_≡_, sym, ap, _∙_}
-use mathlib.Core.Bool.{Bool, _&&_}
-use Prim.Native.Nat.{ℕ, _+_, _-_, _≤_}
+use mathlib.Core.Path.{_≡_, sym, _∙_}
+use mathlib.Core.Bool.{_&&_}
+use Prim.Native.Nat.{_+_, _-_, _≤_}
 use lib.ListN.{length}
 use Rattle.model.specs.Raw.{entryAt}
 use Rattle.model.proofs.Raw.{here}
@@ -20,16 +20,20 @@ Inv-loop c n m layer i₀ at₀ p₀ q₀ adds₀ strikes₀ i at p q adds strik
 abbrev μ-loop : tie.MeasureT-loop
 μ-loop c n m layer i₀ at₀ p₀ q₀ adds₀ strikes₀ i at p q adds strikes = m - i
 
-room : (c : tie.In-loop Inv-loop μ-loop) → c .before .loop .at + (c .before .before .before .args .c + 2) ≤ length (c .before .before .before .args .layer .now)
+room : (c : tie.In-loop Inv-loop μ-loop) →
+    let a = c .before .before .before .args in
+    c .before .loop .at + (a .c + 2) ≤ length (a .layer .now)
 room c =
     let a = c .before .before .before .args in
-    here (a .c) (a .m) (c .before .loop .i) (c .before .loop .at) (length (a .layer .now)) (c .loop-test .taken) (c .before .loop .inv .room)
+    let l = c .before .loop in
+    here (a .c) (a .m) (l .i) (l .at) (length (a .layer .now)) (c .loop-test .taken) (l .inv .room)
 
 -- what the two tests of a turn say together
 judged : (c : tie.After-follows Inv-loop μ-loop) →
     let l = c .before .before .before .before .before in
     let a = l .before .before .args in
-    (c .before .alone-good .result && c .follows .result) ≡ goodAfter (a .c) (a .n) (l .loop .p) (l .loop .q) (entryAt (a .c) (l .loop .at) (a .layer .now))
+    (c .before .alone-good .result && c .follows .result)
+    ≡ goodAfter (a .c) (a .n) (l .loop .p) (l .loop .q) (entryAt (a .c) (l .loop .at) (a .layer .now))
 judged c = rw (c .before .alone-good .ensures, c .follows .ensures)
 
 loop-holds : tie.Need-loop-holds Inv-loop μ-loop
@@ -58,20 +62,24 @@ follows-requires c κs = search needs
 
 returns : tie.Need-returns Inv-loop μ-loop
 returns c =
-    let l = c .before .before .before .before .before .before in
-    stop (l .loop .inv) (c .before .before .before .before .before .loop-test .taken) (sym (judged (c .before)) ∙ not-true _ (c .if1 .taken))
+    let t = c .before .before .before .before .before in
+    stop (t .before .loop .inv) (t .loop-test .taken) (sym (judged (c .before)) ∙ not-true _ (c .if1 .taken))
 
 one-if-requires : tie.Need-one-if-requires Inv-loop μ-loop
 one-if-requires c κs = search needs
 
 add-adds : tie.Need-add-adds Inv-loop μ-loop
-add-adds c = omega (arith, c .one-if .ensures .1, c .before .before .before .before .before .before .before .loop .inv .few-adds, c .before .before .before .before .before .before .loop-test .taken, room (c .before .before .before .before .before .before))
+add-adds c =
+    let t = c .before .before .before .before .before .before in
+    omega (arith, c .one-if .ensures .1, t .before .loop .inv .few-adds, t .loop-test .taken, room t)
 
 one-if-requires-2 : tie.Need-one-if-requires-2 Inv-loop μ-loop
 one-if-requires-2 c κs = search needs
 
 add-strikes : tie.Need-add-strikes Inv-loop μ-loop
-add-strikes c = omega (arith, c .one-if2 .ensures .1, c .before .before .before .before .before .before .before .before .loop .inv .few-strikes, c .before .before .before .before .before .before .before .loop-test .taken, room (c .before .before .before .before .before .before .before))
+add-strikes c =
+    let t = c .before .before .before .before .before .before .before in
+    omega (arith, c .one-if2 .ensures .1, t .before .loop .inv .few-strikes, t .loop-test .taken, room t)
 
 add-at : tie.Need-add-at Inv-loop μ-loop
 add-at c = search needs
@@ -88,9 +96,9 @@ loop-less c = search needs
 loop-again : tie.Need-loop-again Inv-loop μ-loop
 loop-again c =
     let f = c .before .before .before in
-    let l = f .before .before .before .before .before in
+    let t = f .before .before .before .before in
     rw (c .before .one-if .ensures .0, c .one-if2 .ensures .0)
-    (onward (l .loop .inv) (f .before .before .before .before .loop-test .taken) (sym (judged f) ∙ not-false _ (c .before .before .if1 .left)))
+    (onward (t .before .loop .inv) (t .loop-test .taken) (sym (judged f) ∙ not-false _ (c .before .before .if1 .left)))
 
 returns-2 : tie.Need-returns-2 Inv-loop μ-loop
 returns-2 c = end (c .before .loop .inv) (c .loop-test .left)

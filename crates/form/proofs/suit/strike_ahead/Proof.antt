@@ -65,7 +65,8 @@ shared-slice-read-if2 : tie.Need-shared-slice-read-if2 Inv-loop μ-loop
 shared-slice-read-if2 c = omega (arith, room (c .before .before .before))
 
 returns-2 : tie.Need-returns-2 Inv-loop μ-loop
-returns-2 c = rw (step (c .before .before .before .before), eq-eqb _ _ (c .before .before .if1 .left), eq-eqb _ _ (c .if2 .taken))
+returns-2 c =
+    rw (step (c .before .before .before .before), eq-eqb _ _ (c .before .before .if1 .left), eq-eqb _ _ (c .if2 .taken))
 
 add-at : tie.Need-add-at Inv-loop μ-loop
 add-at c = omega (arith, room (c .before .before .before .before))

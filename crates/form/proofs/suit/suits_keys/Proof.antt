@@ -2,7 +2,7 @@
 -- Assumes nothing.
 use borrow.Author.Needs.{needs}
 use native.Mathlib.Omega.{arith}
-use mathlib.Core.Path.{sym, ap, _∙_}
+use mathlib.Core.Path.{sym}
 use Prim.Native.Nat.{_-_, _<_}
 use lib.ListN.{length, getD}
 use Rattle.model.specs.Raw.{entryAt, entriesAt}
@@ -51,7 +51,8 @@ returns c =
     rw (
       c .before .above-last .ensures,
       c .under-next .ensures,
-      suits-add (a .keys .now) (entryAt (a .c) (a .at) xs) (entriesAt (a .c) (a .m - a .i) (a .at) xs) (c .before .before .if1 .taken),
+      suits-add (a .keys .now) (entryAt (a .c) (a .at) xs) (entriesAt (a .c) (a .m - a .i) (a .at) xs)
+          (c .before .before .if1 .taken),
       first-at (a .c) (a .at) xs (s .pre .2),
     )
 
@@ -76,7 +77,8 @@ returns-2 c =
     let a = s .args in
     let xs = a .layer .now in
     rw (
-      suits-strike (a .keys .now) (entryAt (a .c) (a .at) xs) (entriesAt (a .c) (a .m - a .i) (a .at) xs) (c .before .if2 .taken),
+      suits-strike (a .keys .now) (entryAt (a .c) (a .at) xs) (entriesAt (a .c) (a .m - a .i) (a .at) xs)
+          (c .before .if2 .taken),
       first-at (a .c) (a .at) xs (s .pre .2),
     )
 
@@ -84,7 +86,8 @@ returns-3 : tie.Need-returns-3
 returns-3 c =
     let a = c .before .before .before .before .before .before .before .args in
     let xs = a .layer .now in
-    sym (suits-change (a .keys .now) (entryAt (a .c) (a .at) xs) (entriesAt (a .c) (a .m - a .i) (a .at) xs) (c .before .if1 .left) (c .if2 .left))
+    sym (suits-change (a .keys .now) (entryAt (a .c) (a .at) xs) (entriesAt (a .c) (a .m - a .i) (a .at) xs)
+    (c .before .if1 .left) (c .if2 .left))
 
 pub suits-keys-spec : {M : Type 1} → statement M
 suits-keys-spec =

@@ -22,7 +22,8 @@ strike-ahead-requires : tie.Need-strike-ahead-requires
 strike-ahead-requires c κs = search needs
 
 returns-3 : tie.Need-returns-3
-returns-3 c = c .strike-ahead .ensures ∙ sym (under-same _ _ _ _ (c .before .before .before .if1 .left) (c .before .if2 .left))
+returns-3 c =
+    c .strike-ahead .ensures ∙ sym (under-same _ _ _ _ (c .before .before .before .if1 .left) (c .before .if2 .left))
 
 pub under-next-spec : {M : Type 1} → statement M
 under-next-spec =
