@@ -1,3 +1,4 @@
 pub mod Deeds
 pub mod Keyed
 pub mod Weaving
+pub mod Combined
