@@ -73,9 +73,12 @@ module _ (T : Table) (R W : Layer) (a : AscFrom key 0 T) (FR : Fit T R) (FW : Fi
           let kr : key r ≡ k = sym (changed-key p R r (key-kept T R FR)) ∙ (ap key (sym z) ∙ e) in
           let pos : keysBelow k K ≡ p =
           below-keys k T ∙ omega (arith, at-count key 0 0 T a r p n, ap (λ (l : ℕ). count (below key l) T) kr) in
-          inr (ap (λ (i : ℕ). getD K i 0) pos ∙ (key-of n ∙ kr), λ s x.
-          let w = FR .strikes s k x in
-          true≢false (sym (ap (λ (i : ℕ). struck i R) (asc-same key T a n (w .1) (kr ∙ sym (w .2))) ∙ struck-of s k R x) ∙ u))
+          inr (
+            ap (λ (i : ℕ). getD K i 0) pos ∙ (key-of n ∙ kr),
+            λ s x.
+                let w = FR .strikes s k x in
+                true≢false (sym (ap (λ (i : ℕ). struck i R) (asc-same key T a n (w .1) (kr ∙ sym (w .2))) ∙ struck-of s k R x) ∙ u),
+          )
 
   upper-stands : (f : Edit) → Mem f W → addsRow (deed f) ≡ false → Stands K R (keyOf N f)
   upper-stands (at s (add r)) m n = absurd (true≢false n)

@@ -493,9 +493,12 @@ module _ {K N : List ℕ} {a s : ℕ} {p : ℕ} {q : Row} {t j : ℕ} {c : CellE
           let e : d ≡ change j c = ap deed h in
           (ap position h, ap addsRow e, λ l z. let o : _≡_ {A = ℕ} 0 1 = cc in omega arith)
       only i d (next m) k =
-          let w = kind d (then-on N (at t (change j c)) W (g .upper) (at i d) m (k ∙ same)) in
-          (g .upper-sits (at i d) (next m)
-          ∙ (ap (λ (l : ℕ). keysBelow l N) (k ∙ same) ∙ sym (g .upper-sits (at t (change j c)) (here refl))), w .0, w .1)
+          let w = kind d (then-on N (at t (change j c)) W (g .upper) (at i d) m (k ∙ same)) in (
+            g .upper-sits (at i d) (next m)
+                ∙ (ap (λ (l : ℕ). keysBelow l N) (k ∙ same) ∙ sym (g .upper-sits (at t (change j c)) (here refl))),
+            w .0,
+            w .1,
+          )
 
   abbrev left : Layer
   left = drop (changesAhead t all) all

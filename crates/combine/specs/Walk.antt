@@ -26,6 +26,7 @@ pub record Sound (c from : ℕ) (xs : List ℕ) (n : ℕ) : Type 0 where
 
 -- m entries of a slice whose changes are of a column of the row
 pub record Run (c m from : ℕ) (xs : List ℕ) (width : ℕ) : Type 0 where
+  pub some : 1 ≤ c
   pub room : from + m * (c + 2) ≤ length xs
   pub columns : (s j : ℕ) (e : CellEdit) → Mem (at s (change j e)) (map editOf (entriesAt c m from xs)) → j < width
 
