@@ -62,6 +62,16 @@ pub front-on : (whole ys rest old new : List ℕ) (o : ℕ) → whole ≡ take o
     → whole ≡ take (o + length ys) new ++ rest
 front-on whole ys rest old new o e w = e ∙ (sym (append-assoc (take o old) ys rest) ∙ ap (λ (t : List ℕ). t ++ rest) (sym (w .front)))
 
+-- two pieces, one behind the other
+pub put-both : (ys zs old mid new : List ℕ) (o : ℕ) → Put ys old o mid → Put zs mid (o + length ys) new → Put (ys ++ zs) old o new
+put-both ys zs old mid new o v w =
+    let n : o + length (ys ++ zs) ≡ o + length ys + length zs = omega (arith, length-append ys zs) in
+    record {
+      size = w .size ∙ v .size;
+      front = ap (λ (i : ℕ). take i new) n
+          ∙ (w .front ∙ (ap (λ (t : List ℕ). t ++ zs) (v .front) ∙ append-assoc (take o old) ys zs));
+    }
+
 -- an entry whose values are written again
 module _ (c x k o : ℕ) (vals row old mid new : List ℕ) (w : Put (x ∷ k ∷ vals) old o mid) (lv : length vals ≡ c)
     (h : o + (c + 2) ≤ length old) where

@@ -6,3 +6,6 @@ pub mod Entries
 pub mod Buffer
 pub mod Patching
 pub mod Placing
+pub mod Left
+pub mod Walking
+pub mod Finishing

@@ -526,7 +526,7 @@ module _ {K N : List ℕ} {a s : ℕ} {p : ℕ} {q : Row} {t j : ℕ} {c : CellE
   patch-meets = pass left g (ran .sorted) (λ x m. (ran .inside x m) .0) (λ x m. inl ((ran .inside x m) .1)) (a + 1) s refl (omega arith)
 
 -- what the walk leaves after each step
-abbrev outcome : ℕ → List ℕ → List ℕ → ℕ → ℕ → Edit → Edit → Layer → Layer → Step → Layer
+abbrev pub outcome : ℕ → List ℕ → List ℕ → ℕ → ℕ → Edit → Edit → Layer → Layer → Step → Layer
 outcome n K N a s e f R W t =
     choose t
     (e ∷ woven n K N (a + one (isAdd e)) (s + one (isStrike e)) R (f ∷ W))

@@ -2,7 +2,7 @@
 use model::Entry;
 ghost use mathlib.Core.Path.{_≡_};
 ghost use mathlib.Core.Bool.{true};
-ghost use mathlib.Core.List.{_∷_, map};
+ghost use mathlib.Core.List.{_∷_, _++_, map};
 ghost use Prim.Native.Nat.{_+_, _*_, _-_, _≤_, _<_};
 ghost use lib.ListN.{length};
 ghost use Rattle.order.specs.Lists.{one};
@@ -10,7 +10,7 @@ ghost use Rattle.model.specs.Raw.{flat, entryAt, entriesAt, editOf, layerOf};
 ghost use Rattle.model.specs.Form.{sound};
 ghost use Rattle.model.specs.Meaning.{keyOf};
 ghost use Rattle.combine.specs.Woven.{meetKinds, stepOf, rebased, changesAhead, patched, wovenLayer};
-ghost use Rattle.combine.specs.Walk.{Put, Sound, Run, Uppers, Both, Woven};
+ghost use Rattle.combine.specs.Walk.{Put, Sound, Run, Uppers, lefts, Rest, Both, Woven};
 
 // What the next edits of both layers make of each other.
 // Lower: the lower layer's stands as it is. Upper: the upper's stands, at its base position. UpperHere: the same, at the lower's position.
@@ -171,6 +171,31 @@ fn put_uppers(
         end += c + 2;
         i += 1;
     }
+}
+
+// Writes what is left of both layers from o on: the lower one's entries from number i on as they are, the upper's from number j on
+// past so many adds and strikes.
+fn finish(
+    c: usize,
+    mr: usize,
+    i: usize,
+    r: &[u64],
+    mw: usize,
+    j: usize,
+    w: &[u64],
+    adds: u64,
+    strikes: u64,
+    out: &mut [u64],
+    o: usize,
+)
+    requires { ⌜ Rest c mr i (now r) mw j (now w) strikes o (length (now out)) ⌝ }
+    ensures { λ _. ⌜ Put (flat c (lefts c mr i (now (r .entry)) ++ map (rebased adds strikes) (lefts c mw j (now (w .entry))))) (now (out .entry)) o (now (out .exit)) ⌝ }
+{
+    let wide = c + 2;
+    let at = i * wide;
+    let end = mr * wide;
+    let rest = run::copy_in(&r[at..end], out, o);
+    put_uppers(c, mw - j, j * wide, w, adds, strikes, out, rest);
 }
 
 // A test as a number.
