@@ -204,3 +204,65 @@ fn one_if(b: bool) -> u64
 {
     if b { 1 } else { 0 }
 }
+
+// Walks along both layers, writes the entries that they make together to the front of the buffer, and returns how many there are.
+pub fn weave(
+    c: usize,
+    keys: &[u64],
+    mid: &[u64],
+    mr: usize,
+    r: &[u64],
+    mw: usize,
+    w: &[u64],
+    out: &mut [u64],
+) -> usize
+    requires { ⌜ Both c (now keys) (now mid) mr (now r) mw (now w) (length (now out)) ⌝ }
+    ensures { λ m. ⌜ Woven c (wovenLayer (now (keys .entry)) (now (mid .entry)) (layerOf c mr (now (r .entry))) (layerOf c mw (now (w .entry)))) m (now (out .entry)) (now (out .exit)) ⌝ }
+{
+    let wide = c + 2;
+    let mut i: usize = 0;
+    let mut j: usize = 0;
+    let mut m: usize = 0;
+    let mut adds: u64 = 0;
+    let mut strikes: u64 = 0;
+    while (i < mr) & (j < mw) {
+        let at = i * wide;
+        let bt = j * wide;
+        let o = m * wide;
+        match next_step(c, at, r, keys, bt, w, mid) {
+            Step::Lower => {
+                put_entry(c, r[at], at, r, out, o);
+                adds += one_if(r[at + 1] == Entry::ADD);
+                strikes += one_if(r[at + 1] == Entry::STRIKE);
+                i += 1;
+                m += 1;
+            }
+            Step::Upper => {
+                put_entry(c, rebase(w[bt], adds, strikes), bt, w, out, o);
+                j += 1;
+                m += 1;
+            }
+            Step::UpperHere => {
+                put_entry(c, r[at], bt, w, out, o);
+                j += 1;
+                m += 1;
+            }
+            Step::Drop => {
+                i += 1;
+            }
+            Step::Vanish => {
+                adds += 1;
+                i += 1;
+                j += 1;
+            }
+            Step::Patch => {
+                j += put_patched(c, at, r, mw - j, bt, w, out, o);
+                adds += 1;
+                i += 1;
+                m += 1;
+            }
+        }
+    }
+    finish(c, mr, i, r, mw, j, w, adds, strikes, out, m * wide);
+    m + (mr - i) + (mw - j)
+}
