@@ -1,0 +1,14 @@
+pub mod Splice
+pub mod Landed
+pub mod Known
+pub mod Entering
+pub mod Struck
+pub mod Changed
+pub mod Cores
+pub mod Answered
+pub mod Rows
+pub mod Showing
+pub mod Added
+pub mod Accepting
+pub mod Laws
+pub mod Unique

@@ -1,0 +1,122 @@
+-- An element entered into a list and others taken out at one place: the list's front, the element, the list's rest.
+-- Assumes nothing.
+use mathlib.Core.Path.{_≡_, refl, sym, ap, _∙_}
+use mathlib.Core.Bool.{Bool, true, false, not, cond, true≢false}
+use mathlib.Core.List.{
+  List,
+  [],
+  _∷_,
+  _++_,
+  List·Memᴰ as Mem,
+  List·Memᴰ·head as here,
+  List·Memᴰ·tail as next,
+  List·Memᴰ·not-nil as not-nil,
+}
+use Prim.Native.Nat.{ℕ, zero, suc, _+_, _≤_, _<_}
+use native.Mathlib.Nat.{zero-add, suc-add}
+use native.Mathlib.Omega.{arith}
+use lib.ListN.{length, take, drop, take-append-drop}
+use lib.Seq.{drop-drop, drop-nil}
+use Rattle.order.specs.Lists.{filter, insert, without, firstAt}
+use Rattle.order.proofs.Tests.{not-passed}
+use Rattle.order.proofs.Pairs.{AllPairs}
+
+module _ {A : Type 0} where
+  pub take-mem : (i : ℕ) (L : List A) (x : A) → Mem x (take i L) → Mem x L
+  take-mem zero L x m = absurd (not-nil m)
+  take-mem (suc i) [] x m = absurd (not-nil m)
+  take-mem (suc i) (y ∷ L) x (here e) = here e
+  take-mem (suc i) (y ∷ L) x (next m) = next (take-mem i L x m)
+
+  pub drop-mem : (i : ℕ) (L : List A) (x : A) → Mem x (drop i L) → Mem x L
+  drop-mem zero L x m = m
+  drop-mem (suc i) [] x m = m
+  drop-mem (suc i) (y ∷ L) x m = next (drop-mem i L x m)
+
+  pub pairs-drop : (R : A → A → Bool) (i : ℕ) (L : List A) → AllPairs R L → AllPairs R (drop i L)
+  pairs-drop R zero L p = p
+  pairs-drop R (suc i) [] p = p
+  pairs-drop R (suc i) (x ∷ L) p = pairs-drop R i L (p .1)
+
+  -- an element taken out
+  pub without-at : (i : ℕ) (L : List A) → without i L ≡ take i L ++ drop (i + 1) L
+  without-at zero [] = refl
+  without-at zero (x ∷ L) = refl
+  without-at (suc i) [] = sym (drop-nil (suc i + 1))
+  without-at (suc i) (x ∷ L) = rw suc-add (ap (λ (t : List A). x ∷ t) (without-at i L))
+
+module _ {A : Type 0} (R : A → A → Bool) (e : A) where
+  insert-past : (X Y : List A) → ((d : A) → Mem d X → R d e ≡ true) → insert R e (X ++ Y) ≡ X ++ insert R e Y
+  insert-past [] Y h = refl
+  insert-past (x ∷ X) Y h = rw (h x (here refl)) (ap (λ (t : List A). x ∷ t) (insert-past X Y (λ d m. h d (next m))))
+
+  insert-first : (Y : List A) → ((d : A) → Mem d Y → R d e ≡ false) → insert R e Y ≡ e ∷ Y
+  insert-first [] h = refl
+  insert-first (y ∷ Y) h = rw (h y (here refl))
+
+  -- those before the first that does not stand before e
+  pub front : (L : List A) (d : A) → Mem d (take (firstAt (λ x. not (R x e)) L) L) → R d e ≡ true
+  front [] d m = absurd (not-nil m)
+  front (x ∷ L) d m = go (λ n. front L d n) (R x e) refl m
+    where
+      go : (Mem d (take (firstAt (λ y. not (R y e)) L) L) → R d e ≡ true) → (t : Bool) → R x e ≡ t
+          → Mem d (take (cond (not t) 0 (suc (firstAt (λ y. not (R y e)) L))) (x ∷ L)) → R d e ≡ true
+      go ih true h (here f) = ap (λ (z : A). R z e) f ∙ h
+      go ih true h (next n) = ih n
+      go ih false h n = absurd (not-nil n)
+
+  -- in a list in order none of the others does
+  pub rest : ((x y z : A) → R x y ≡ true → R y z ≡ true → R x z ≡ true) → (L : List A) → AllPairs R L
+      → (d : A) → Mem d (drop (firstAt (λ x. not (R x e)) L) L) → R d e ≡ false
+  rest trans [] p d m = absurd (not-nil m)
+  rest trans (x ∷ L) p d m = go (λ n. rest trans L (p .1) d n) (R x e) refl m
+    where
+      go : (Mem d (drop (firstAt (λ y. not (R y e)) L) L) → R d e ≡ false) → (t : Bool) → R x e ≡ t
+          → Mem d (drop (cond (not t) 0 (suc (firstAt (λ y. not (R y e)) L))) (x ∷ L)) → R d e ≡ false
+      go ih true h n = ih n
+      go ih false h (here f) = ap (λ (z : A). R z e) f ∙ h
+      go ih false h (next n) = not-passed (R d e) (λ f. true≢false (sym (trans x d e (p .0 d n) f) ∙ h))
+
+  pub first-le : (L : List A) → firstAt (λ x. not (R x e)) L ≤ length L
+  first-le [] = omega arith
+  first-le (x ∷ L) = go (first-le L) (R x e)
+    where
+      go : firstAt (λ y. not (R y e)) L ≤ length L → (t : Bool) → cond (not t) 0 (suc (firstAt (λ y. not (R y e)) L)) ≤ suc (length L)
+      go ih true = omega arith
+      go ih false = omega arith
+
+  -- an element entered
+  pub insert-at : (i : ℕ) (L : List A) → ((d : A) → Mem d (take i L) → R d e ≡ true) → ((d : A) → Mem d (drop i L) → R d e ≡ false)
+      → insert R e L ≡ take i L ++ (e ∷ drop i L)
+  insert-at i L f r =
+      ap (insert R e) (sym (take-append-drop i L))
+      ∙ (insert-past (take i L) (drop i L) f ∙ ap (λ (t : List A). take i L ++ t) (insert-first (drop i L) r))
+
+  -- and others taken out, the k from number i on
+  module _ (g : A → Bool) where
+    kept : (X Y : List A) → ((d : A) → Mem d X → g d ≡ false) → filter (λ d. not (g d)) (X ++ Y) ≡ X ++ filter (λ d. not (g d)) Y
+    kept [] Y h = refl
+    kept (x ∷ X) Y h = rw (h x (here refl)) (ap (λ (t : List A). x ∷ t) (kept X Y (λ d m. h d (next m))))
+
+    kept-all : (Y : List A) → ((d : A) → Mem d Y → g d ≡ false) → filter (λ d. not (g d)) Y ≡ Y
+    kept-all [] h = refl
+    kept-all (y ∷ Y) h = rw (h y (here refl)) (ap (λ (t : List A). y ∷ t) (kept-all Y (λ d m. h d (next m))))
+
+    gone : (X Y : List A) → ((d : A) → Mem d X → g d ≡ true) → filter (λ d. not (g d)) (X ++ Y) ≡ filter (λ d. not (g d)) Y
+    gone [] Y h = refl
+    gone (x ∷ X) Y h = rw (h x (here refl)) (gone X Y (λ d m. h d (next m)))
+
+    pub splice : (i k : ℕ) (L : List A) → ((d : A) → Mem d (take i L) → (R d e ≡ true) × (g d ≡ false))
+        → ((d : A) → Mem d (take k (drop i L)) → g d ≡ true)
+        → ((d : A) → Mem d (drop (i + k) L) → (R d e ≡ false) × (g d ≡ false))
+        → insert R e (filter (λ d. not (g d)) L) ≡ take i L ++ (e ∷ drop (i + k) L)
+    splice i k L f b r =
+        let whole : L ≡ take i L ++ (take k (drop i L) ++ drop (i + k) L) =
+        sym (rw (← drop-drop k i L, take-append-drop k (drop i L)) (take-append-drop i L)) in
+        let left : filter (λ d. not (g d)) L ≡ take i L ++ drop (i + k) L =
+        ap (filter (λ d. not (g d))) whole
+        ∙ (kept (take i L) (take k (drop i L) ++ drop (i + k) L) (λ d m. f d m .1)
+        ∙ ap (λ (t : List A). take i L ++ t) (gone (take k (drop i L)) (drop (i + k) L) b ∙ kept-all (drop (i + k) L) (λ d m. r d m .1))) in
+        ap (insert R e) left
+        ∙ (insert-past (take i L) (drop (i + k) L) (λ d m. f d m .0)
+        ∙ ap (λ (t : List A). take i L ++ t) (insert-first (drop (i + k) L) (λ d m. r d m .0)))

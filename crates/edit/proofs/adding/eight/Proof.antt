@@ -1,0 +1,19 @@
+-- A row written over eight zeros.
+-- Assumes nothing.
+use borrow.Author.Needs.{needs}
+use mathlib.Core.Path.{_≡_, _∙_}
+use Rattle.edit.proofs.Added.{filled}
+use Rattle.edit.proofs.adding.eight.Statement.{statement}
+use Rattle.edit.proofs.adding.eight.Tie as tie
+
+slice-aggregate-copy-in : tie.Need-slice-aggregate-copy-in
+slice-aggregate-copy-in c = search needs
+
+copy-in-requires : tie.Need-copy-in-requires
+copy-in-requires c κs = search needs
+
+returns : tie.Need-returns
+returns c = c .before .copy-in .ensures .1 ∙ filled (c .before .before .before .before .args .row .now)
+
+pub eight-spec : {M : Type 1} → statement M
+eight-spec = tie.close (tie.spec slice-aggregate-copy-in copy-in-requires returns)

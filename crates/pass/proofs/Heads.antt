@@ -1,0 +1,155 @@
+-- What the heads of two entries say is what their edits say: order and conflict look at no more of a row than its key.
+-- Assumes nothing.
+use mathlib.Core.Path.{_≡_, refl, ap, _∙_}
+use mathlib.Core.Bool.{Bool, true, false, not, cond, _&&_, _||_, or-false, and-true}
+use mathlib.Core.List.{List, [], _∷_}
+use Prim.Native.Nat.{ℕ}
+use lib.ListN.{getD}
+use lib.Dec.{ltb, eqb}
+use borrow.Author.Tests.{eq-eqb, ne-eqb}
+use Rattle.model.specs.declared.Entry.{Entry}
+use Rattle.model.specs.Row.{Row, key}
+use Rattle.model.specs.Cell.{to}
+use Rattle.model.specs.Layer.{Deed, add, strike, change, Edit, at}
+use Rattle.model.specs.Raw.{ADD, STRIKE, editOf}
+use Rattle.model.specs.Edits.{deedBefore, before}
+use Rattle.model.specs.Conflict.{Rule, none, struckRow, sameCell, sameKey, clash, met, ruleNumber}
+use Rattle.model.proofs.Conflict.{clash-sym}
+use Rattle.pass.specs.declared.head.Head.{Head}
+use Rattle.pass.specs.Head.{headOf, seen}
+
+-- a deed by tests of its kind
+abbrev deedBy : Bool → Bool → List ℕ → ℕ → ℕ → Deed
+deedBy a b row v k = cond a (add row) (cond b (strike v) (change k (to v)))
+
+-- what looks at no more of an added row than its key sees the edit in the head
+by-key : {B : Type 0} (F : Edit → B) → ((s : ℕ) (q r : Row) → key q ≡ key r → F (at s (add q)) ≡ F (at s (add r)))
+    → (e : Entry) → F (seen (headOf e)) ≡ F (editOf e)
+unfolding key
+by-key F h e = by (eqb (e .kind) ADD) (eqb (e .kind) STRIKE)
+  where
+    by : (a b : Bool) → F (at (e .pos) (deedBy a b (getD (e .vals) 0 0 ∷ []) (getD (e .vals) 0 0) (e .kind)))
+        ≡ F (at (e .pos) (deedBy a b (e .vals) (getD (e .vals) 0 0) (e .kind)))
+    by true b = h (e .pos) (getD (e .vals) 0 0 ∷ []) (e .vals) refl
+    by false b = refl
+
+pub before-head : (d : Edit) (e : Entry) → before d (seen (headOf e)) ≡ before d (editOf e)
+before-head (at p d) e = by-key (before (at p d)) (λ s q r k. level s q r d k) e
+  where
+    level : (s : ℕ) (q r : Row) (d : Deed) → key q ≡ key r → before (at p d) (at s (add q)) ≡ before (at p d) (at s (add r))
+    level s q r (add x) k = rw k
+    level s q r (strike l) k = refl
+    level s q r (change j f) k = refl
+
+pub head-before : (d : Entry) (e : Edit) → before (seen (headOf d)) e ≡ before (editOf d) e
+head-before d (at s e) = by-key (λ x. before x (at s e)) (λ p q r k. level p q r e k) d
+  where
+    level : (p : ℕ) (q r : Row) (e : Deed) → key q ≡ key r → before (at p (add q)) (at s e) ≡ before (at p (add r)) (at s e)
+    level p q r (add x) k = rw k
+    level p q r (strike l) k = refl
+    level p q r (change j f) k = refl
+
+pub clash-head : (d : Edit) (e : Entry) → clash d (seen (headOf e)) ≡ clash d (editOf e)
+clash-head d e = by-key (clash d) (λ s q r k. level s q r d k) e
+  where
+    level : (s : ℕ) (q r : Row) (d : Edit) → key q ≡ key r → clash d (at s (add q)) ≡ clash d (at s (add r))
+    level s q r (at p (add x)) k = rw k
+    level s q r (at p (strike l)) k = refl
+    level s q r (at p (change j f)) k = refl
+
+pub head-clash : (d : Entry) (e : Edit) → clash (seen (headOf d)) e ≡ clash (editOf d) e
+head-clash d e = clash-sym (seen (headOf d)) e ∙ (clash-head e d ∙ clash-sym e (editOf d))
+
+-- a rule is met where its number is not 0
+pub met-number : (r : Rule) → not (eqb (ruleNumber r) 0) ≡ met r
+met-number none = refl
+met-number struckRow = refl
+met-number sameCell = refl
+met-number sameKey = refl
+
+number : (t : Bool) (r : Rule) → ruleNumber (cond t r none) ≡ cond t (ruleNumber r) 0
+number true r = refl
+number false r = refl
+
+cell : (s t : Bool) → ruleNumber (cond (s && (t && true)) sameCell none) ≡ cond s (cond t 2 0) 0
+cell true t = rw and-true (number t sameCell)
+cell false t = refl
+
+-- order at one position, and conflict, by tests of the kinds
+module _ (a b x y : Bool) (u v q k : ℕ) where
+  pub level-kinds : ((a && (not x || ltb u v)) || (not a && (not b && (not x && (not y && ltb q k)))))
+      ≡ deedBefore (deedBy a b (u ∷ []) u q) (deedBy x y (v ∷ []) v k)
+  unfolding key
+  level-kinds =
+      elim a [
+        | true ↦ elim x [ true ↦ or-false (ltb u v) | false ↦ elim y [ true ↦ refl | false ↦ refl ] ]
+        | false ↦ elim b [ true ↦ refl | false ↦ elim x [ true ↦ refl | false ↦ elim y [ true ↦ refl | false ↦ refl ] ] ]
+      ]
+
+  pub clash-kinds : (p s : ℕ)
+      → ruleNumber (clash (at p (deedBy a b (u ∷ []) u q)) (at s (deedBy x y (v ∷ []) v k)))
+      ≡ cond (a && x) (cond (eqb u v) 3 0) (cond (a || x) 0 (cond (eqb p s) (cond (b || y) 1 (cond (eqb q k) 2 0)) 0))
+  unfolding key
+  clash-kinds p s =
+      elim a [
+        | true ↦ elim x [ true ↦ number (eqb u v) sameKey | false ↦ elim y [ true ↦ refl | false ↦ refl ] ]
+        | false ↦ elim x [
+          | true ↦ elim b [ true ↦ refl | false ↦ refl ]
+          | false ↦ elim b [
+            | true ↦ elim y [ true ↦ number (eqb p s) struckRow | false ↦ number (eqb p s) struckRow ]
+            | false ↦ elim y [ true ↦ number (eqb p s) struckRow | false ↦ cell (eqb p s) (eqb q k) ]
+          ]
+        ]
+      ]
+
+-- the rule that two heads meet, test by test
+module _ (d e : Head) where
+  abbrev number-met : ℕ
+  number-met = ruleNumber (clash (seen d) (seen e))
+
+  rule-by : number-met
+      ≡ cond (eqb (d .kind) ADD && eqb (e .kind) ADD) (cond (eqb (d .first) (e .first)) 3 0)
+      (cond (eqb (d .kind) ADD || eqb (e .kind) ADD) 0
+      (cond (eqb (d .pos) (e .pos))
+      (cond (eqb (d .kind) STRIKE || eqb (e .kind) STRIKE) 1 (cond (eqb (d .kind) (e .kind)) 2 0)) 0))
+  rule-by =
+      clash-kinds (eqb (d .kind) ADD) (eqb (d .kind) STRIKE) (eqb (e .kind) ADD) (eqb (e .kind) STRIKE) (d .first)
+      (e .first) (d .kind) (e .kind) (d .pos) (e .pos)
+
+  module _ (both : (eqb (d .kind) ADD && eqb (e .kind) ADD) ≡ true) where
+    pub one-key : d .first ≡ e .first → 3 ≡ number-met
+    one-key h = rw (rule-by, both, eq-eqb (d .first) (e .first) h)
+
+    pub two-keys : (d .first ≡ e .first → ⊥) → 0 ≡ number-met
+    two-keys h = rw (rule-by, both, ne-eqb (d .first) (e .first) h)
+
+  module _ (some : (eqb (d .kind) ADD && eqb (e .kind) ADD) ≡ false) where
+    pub one-adds : (eqb (d .kind) ADD || eqb (e .kind) ADD) ≡ true → 0 ≡ number-met
+    one-adds h = rw (rule-by, some, h)
+
+    module _ (none-adds : (eqb (d .kind) ADD || eqb (e .kind) ADD) ≡ false) where
+      pub two-rows : (d .pos ≡ e .pos → ⊥) → 0 ≡ number-met
+      two-rows h = rw (rule-by, some, none-adds, ne-eqb (d .pos) (e .pos) h)
+
+      module _ (one-row : d .pos ≡ e .pos) where
+        pub row-struck : (eqb (d .kind) STRIKE || eqb (e .kind) STRIKE) ≡ true → 1 ≡ number-met
+        row-struck h = rw (rule-by, some, none-adds, eq-eqb (d .pos) (e .pos) one-row, h)
+
+        module _ (kept : (eqb (d .kind) STRIKE || eqb (e .kind) STRIKE) ≡ false) where
+          pub one-cell : d .kind ≡ e .kind → 2 ≡ number-met
+          one-cell h =
+              rw (rule-by, some, none-adds, eq-eqb (d .pos) (e .pos) one-row, kept, eq-eqb (d .kind) (e .kind) h)
+
+          pub two-cells : (d .kind ≡ e .kind → ⊥) → 0 ≡ number-met
+          two-cells h =
+              rw (rule-by, some, none-adds, eq-eqb (d .pos) (e .pos) one-row, kept, ne-eqb (d .kind) (e .kind) h)
+
+pub before-by : (d e : Head) → (ltb (d .pos) (e .pos) || (eqb (d .pos) (e .pos)
+    && ((eqb (d .kind) ADD && (not (eqb (e .kind) ADD) || ltb (d .first) (e .first)))
+    || (not (eqb (d .kind) ADD) && (not (eqb (d .kind) STRIKE)
+    && (not (eqb (e .kind) ADD) && (not (eqb (e .kind) STRIKE) && ltb (d .kind) (e .kind))))))))
+    ≡ before (seen d) (seen e)
+before-by d e =
+    ap (λ (t : Bool). ltb (d .pos) (e .pos) || (eqb (d .pos) (e .pos) && t))
+    (level-kinds (eqb (d .kind) ADD) (eqb (d .kind) STRIKE) (eqb (e .kind) ADD) (eqb (e .kind) STRIKE) (d .first)
+    (e .first) (d .kind) (e .kind))

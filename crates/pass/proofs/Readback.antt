@@ -1,0 +1,71 @@
+-- A layer written out and read back is the layer that it was.
+-- Assumes nothing.
+use Prim.Native.Nat.{ℕ, suc, _+_, _-_, _≤_, _<_}
+use native.Mathlib.Omega.{arith}
+use mathlib.Core.Path.{_≡_, refl, sym, ap, _∙_}
+use mathlib.Core.Bool.{true, _&&_}
+use mathlib.Core.List.{
+  List,
+  [],
+  _∷_,
+  _++_,
+  append-assoc,
+  map,
+  List·Memᴰ as Mem,
+  List·Memᴰ·head as here,
+  List·Memᴰ·tail as next,
+}
+use lib.ListN.{length, getD, take, replicate, length-replicate}
+use lib.Seq.{take-append-le, take-all}
+use lib.Dec.{leb, ltb, eqb}
+use borrow.Author.Tests.{ltb-true, eqb-true, ne-eqb}
+use Rattle.order.specs.Lists.{gather}
+use Rattle.order.proofs.Tests.{and-r}
+use Rattle.model.specs.Row.{Row}
+use Rattle.model.specs.Cell.{to}
+use Rattle.model.specs.Layer.{add, strike, change, Edit, at, Layer}
+use Rattle.model.specs.Raw.{ADD, STRIKE, entryAt, entriesAt, editOf, numbersOf, layerOf, flat}
+use Rattle.model.specs.Form.{sound}
+use Rattle.model.proofs.Raw.{entries-past}
+
+module _ (c n : ℕ) (some : 1 ≤ c) (few : c ≤ 8) where
+  numbers-length : (e : Edit) → sound c n e ≡ true → length (numbersOf c e) ≡ c + 2
+  numbers-length (at s (add r)) h = omega (arith, eqb-true (length r) c (and-r (leb s n) (eqb (length r) c) h))
+  numbers-length (at s (strike k)) h = omega (arith, length-replicate {A = ℕ} (c - 1) 0)
+  numbers-length (at s (change j (to v))) h = omega (arith, length-replicate {A = ℕ} (c - 1) 0)
+
+  first : (v : ℕ) (vs : List ℕ) → getD (take c (v ∷ vs)) 0 0 ≡ v
+  first v vs = let e : c ≡ suc (c - 1) = omega arith in rw e
+
+  read-one : (e : Edit) (zs : List ℕ) → sound c n e ≡ true → editOf (entryAt c 0 (numbersOf c e ++ zs)) ≡ e
+  read-one (at s (add r)) zs h =
+      let l : length r ≡ c = eqb-true (length r) c (and-r (leb s n) (eqb (length r) c) h) in
+      ap (λ (v : Row). at s (add v)) (take-append-le c r zs (omega arith) ∙ take-all c r (omega arith))
+  read-one (at s (strike k)) zs h = ap (λ (v : ℕ). at s (strike v)) (first k (replicate (c - 1) 0 ++ zs))
+  read-one (at s (change j (to v))) zs h =
+      let l : j < c = ltb-true j c (and-r (leb 1 j) (ltb j c) (and-r (ltb s n) (leb 1 j && ltb j c) h)) in
+      rw (ne-eqb j ADD (λ e. omega arith), ne-eqb j STRIKE (λ e. omega arith))
+      (ap (λ (w : ℕ). at s (change j (to w))) (first v (replicate (c - 1) 0 ++ zs)))
+
+  read-all : (L : Layer) (zs : List ℕ) → ((e : Edit) → Mem e L → sound c n e ≡ true)
+      → map editOf (entriesAt c (length L) 0 (gather (numbersOf c) L ++ zs)) ≡ L
+  unfolding entriesAt
+  read-all [] zs h = refl
+  read-all (e ∷ L) zs h =
+      let w : length (numbersOf c e) ≡ c + 2 = numbers-length e (h e (here refl)) in
+      let from : 0 + (c + 2) ≡ length (numbersOf c e) + 0 = omega arith in
+      let one = read-one e (gather (numbersOf c) L ++ zs) (h e (here refl)) in
+      let rest = read-all L zs (λ d m. h d (next m)) in
+      rw (
+        append-assoc (numbersOf c e) (gather (numbersOf c) L) zs,
+        from,
+        entries-past c (length L) 0 (numbersOf c e) (gather (numbersOf c) L ++ zs),
+      )
+      (λ i. one i ∷ rest i)
+
+  -- the first m entries of a slice that begins with a layer's numbers are the layer
+  pub read-back : (m : ℕ) (L : Layer) (zs : List ℕ) → length L ≡ m → ((e : Edit) → Mem e L → sound c n e ≡ true)
+      → layerOf c m (flat c L ++ zs) ≡ L
+  unfolding layerOf flat
+  read-back m L zs l h =
+      ap (λ (k : ℕ). map editOf (entriesAt c k 0 (gather (numbersOf c) L ++ zs))) (sym l) ∙ read-all L zs h

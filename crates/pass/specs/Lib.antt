@@ -1,0 +1,4 @@
+pub mod Head
+pub mod Walk
+pub mod Stages
+pub mod Promises
