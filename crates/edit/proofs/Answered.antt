@@ -77,7 +77,7 @@ module _ (c m : ℕ) (raw K : List ℕ) where
       abbrev addedTo : Layer
       addedTo = addedLayer c m raw K row
 
-      add-rest : addAnswer c m raw K row ≡ onward Refused (readyAnswer c m raw K) (addRest c m raw K row)
+      pub add-rest : addAnswer c m raw K row ≡ onward Refused (readyAnswer c m raw K) (addRest c m raw K row)
       unfolding addAnswer
       add-rest =
           rw (eq-eqb (length row) c wide, and-true)
@@ -95,7 +95,7 @@ module _ (c m : ℕ) (raw K : List ℕ) where
     abbrev struckTo : Layer
     struckTo = struckLayer c m raw K r
 
-    strike-rest : strikeAnswer c m raw K r
+    pub strike-rest : strikeAnswer c m raw K r
         ≡ onward Refused (readyAnswer c m raw K) (firstMet Refused (badRow (length K) L r ∷ noRoom c (length raw) struckTo ∷ []) (Done (length struckTo)))
     unfolding strikeAnswer
     strike-rest = after-ready (badRow (length K) L r ∷ noRoom c (length raw) struckTo ∷ []) (Done (length struckTo))
@@ -119,7 +119,7 @@ module _ (c m : ℕ) (raw K : List ℕ) where
     change-no-column l = rw (le-ltb j c l, and-false)
 
     module _ (l : j < c) where
-      change-rest : changeAnswer c m raw K r j v
+      pub change-rest : changeAnswer c m raw K r j v
           ≡ onward Refused (readyAnswer c m raw K)
           (firstMet Refused (badRow (length K) L r ∷ refuse 6 0 (eqb j 0) ∷ noRoom c (length raw) changedTo ∷ []) (Done (length changedTo)))
       unfolding changeAnswer

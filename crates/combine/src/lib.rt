@@ -1,0 +1,2 @@
+// Two layers into one: a walk along both by key.
+mod weave;

@@ -1,0 +1,5 @@
+pub mod Writing
+pub mod Based
+pub mod Hearing
+pub mod Printed
+pub mod Feeding

@@ -1,0 +1,75 @@
+-- The input read byte by byte: a line feed ends a line, which is heard; the bytes of the line that has begun are kept.
+use mathlib.Core.Path.{_≡_}
+use mathlib.Core.Bool.{Bool, true, false, cond}
+use mathlib.Core.List.{List, [], _∷_, _++_}
+use Prim.Native.Nat.{ℕ, _+_, _*_, _≤_, _<_}
+use lib.ListN.{length, take}
+use lib.Dec.{eqb}
+use Rattle.order.specs.Lists.{inTurn}
+use Rattle.line.specs.Line.{lineOf}
+use Rattle.console.specs.declared.Desk.{Desk}
+use Rattle.console.specs.declared.feed.Feed.{Feed}
+use Rattle.console.specs.Desk.{Sheet, sheetOf, mostBase, Roomy, heard, after}
+use Rattle.console.specs.Text.{message}
+
+-- what is read so far: the desk, the lent numbers, the bytes kept of the line that has begun, and what was said
+pub record Reading : Type 0 where
+  pub desk : Desk
+  pub sheet : Sheet
+  pub line : List ℕ
+  pub text : List ℕ
+
+-- the bytes that are kept of a line: one more than the longest readable line has
+abbrev pub mostKept : ℕ
+mostKept = 65
+
+-- one line more is read
+abbrev pub lineIn : List ℕ → Reading → Reading
+lineIn l i =
+    let s = heard (lineOf l) (i .desk) (i .sheet) in
+    record {
+      desk = s .desk;
+      sheet = after (lineOf l) (i .desk) (i .sheet);
+      line = [];
+      text = i .text ++ message (s .desk .lines) (s .said);
+    }
+
+-- one byte more is kept
+abbrev pub byteKept : ℕ → Reading → Reading
+byteKept b i = record { desk = i .desk; sheet = i .sheet; line = take mostKept (i .line ++ (b ∷ [])); text = i .text }
+
+abbrev pub byteIn : ℕ → Reading → Reading
+byteIn b i = cond (eqb b 10) (lineIn (i .line) i) (byteKept b i)
+
+-- bytes read in turn
+unfoldable pub bytesIn : List ℕ → Reading → Reading
+bytesIn bs i = inTurn byteIn bs i
+
+-- the reading that stands in the program's numbers and buffers
+abbrev pub readingOf : Feed → List ℕ → List ℕ → List ℕ → List ℕ → List ℕ → List ℕ → Reading
+readingOf f keys sources masks layer line out =
+    record { desk = f .desk; sheet = sheetOf keys sources masks layer; line = take (f .kept) line; text = take (f .at) out }
+
+-- what is owed for some bytes: the reading afterwards, within the room
+pub record Took (bs : List ℕ) (f : Feed) (i : Reading) (f′ : Feed) (i′ : Reading) : Type 0 where
+  pub same : i′ ≡ bytesIn bs i
+  pub standing : f′ .desk .rows ≤ mostBase
+  pub short : f′ .kept ≤ mostKept
+  pub said : f′ .at ≤ f .at + length bs * 50
+  pub counted : f′ .desk .lines ≤ f .desk .lines + length bs
+
+-- the buffers have room for n bytes more
+pub record Spacious (n : ℕ) (f : Feed) (keys sources masks line out : List ℕ) : Type 0 where
+  pub roomy : Roomy (f .desk) keys sources masks
+  pub short : f .kept ≤ mostKept
+  pub inLine : length line ≡ mostKept
+  pub inText : f .at + n * 50 ≤ length out
+  pub countable : f .desk .lines + n < 9223372036854775808
+
+-- what is owed for a line that ends
+pub record Ended (f : Feed) (i : Reading) (f′ : Feed) (i′ : Reading) : Type 0 where
+  pub same : i′ ≡ lineIn (i .line) i
+  pub standing : f′ .desk .rows ≤ mostBase
+  pub short : f′ .kept ≡ 0
+  pub said : f′ .at ≤ f .at + 50
+  pub counted : f′ .desk .lines ≡ f .desk .lines + 1

@@ -1,0 +1,4 @@
+pub mod Text
+pub mod Desk
+pub mod Shown
+pub mod Input

@@ -1,0 +1,5 @@
+pub mod Reading
+pub mod Pass
+pub mod Sign
+pub mod Digits
+pub mod Examples
