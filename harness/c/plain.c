@@ -135,6 +135,26 @@ answer plain_read(size_t c, size_t m, const uint64_t *layer, size_t len, const u
     return done(read_part(c, m, layer, base, n, j, out));
 }
 
+static bool touched(size_t c, size_t m, const uint64_t *layer, size_t j) {
+    const uint64_t *e = layer;
+    for (size_t i = 0; i < m; i++, e += c + 2)
+        if (e[1] == KW_ADD || e[1] == KW_STRIKE || e[1] == j)
+            return true;
+    return false;
+}
+
+answer plain_view(size_t c, size_t m, const uint64_t *layer, size_t len, const uint64_t *base, size_t n, size_t j,
+                  const uint64_t *out, size_t out_len) {
+    (void)base;
+    (void)out;
+    if (j >= c)
+        return done(0);
+    answer a = check(c, n, m, layer, len);
+    if (a.number || out_len < a.value)
+        return done(0);
+    return touched(c, m, layer, j) ? (answer){1, a.value} : done(n);
+}
+
 /* a merge by key, as the paper of 2010 compares with: added rows and struck keys, each ascending, against the key column */
 size_t plain_by_key(const uint64_t *keys, const uint64_t *base, size_t n, const uint64_t *added, const uint64_t *value, size_t na,
                     const uint64_t *gone, size_t ng, uint64_t *out) {
@@ -154,7 +174,7 @@ size_t plain_by_key(const uint64_t *keys, const uint64_t *base, size_t n, const 
     return o;
 }
 
-struct kw_shift plain_shift(size_t c, size_t n, size_t m, const uint64_t *layer, size_t len, size_t s) {
+struct kw_shift plain_shift_at(size_t c, size_t n, size_t m, const uint64_t *layer, size_t len, size_t s) {
     if (s > n)
         return (struct kw_shift){1, 0};
     answer a = check(c, n, m, layer, len);
@@ -167,6 +187,11 @@ struct kw_shift plain_shift(size_t c, size_t n, size_t m, const uint64_t *layer,
         d -= e[1] == KW_STRIKE && e[0] < s;
     }
     return (struct kw_shift){0, d};
+}
+
+answer plain_row(size_t c, size_t n, size_t m, const uint64_t *layer, size_t len, size_t s) {
+    struct kw_shift d = plain_shift_at(c, n, m, layer, len, s);
+    return d.number ? refused(d.number, (uint64_t)d.value) : done(s + (uint64_t)d.value);
 }
 
 /* what row r is: the entry number where it stands or would be entered, and the base row, or the added entry */
@@ -421,8 +446,6 @@ static size_t weave(size_t c, const uint64_t *keys, const uint64_t *mid, size_t 
             to[o * wd] = s;
             o++;
             j++;
-            strikes++;
-            strikes--;
         } else if (e[1] < f[1]) {
             memcpy(to + o * wd, e, wd * 8);
             o++;

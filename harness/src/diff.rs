@@ -1,7 +1,8 @@
-//! Differential tests: every call of the archive beside the paper by brute force, on valid, damaged and extreme input.
+//! Differential tests: every call of the archive, and of plain C, beside the paper by brute force, on valid, damaged and extreme input.
 
 use crate::paper::{self, Entry, Pair};
-use crate::{card, Rng};
+use crate::calls::{Calls, CARD, PLAIN};
+use crate::Rng;
 
 pub const CALLS: [&str; 11] = ["fit", "read", "view", "shift", "row", "back", "add", "strike", "change", "combine", "move"];
 
@@ -72,6 +73,9 @@ impl Guarded {
         let end = self.0.len() - WORDS;
         &mut self.0[WORDS..end]
     }
+    fn shared(&self) -> &[u64] {
+        &self.0[WORDS..self.0.len() - WORDS]
+    }
     fn whole(&self) -> bool {
         let end = self.0.len() - WORDS;
         self.0[..WORDS].iter().chain(&self.0[end..]).all(|x| *x == GUARD)
@@ -134,8 +138,9 @@ fn good_layer(rng: &mut Rng, c: usize, keys: &[u64], steps: usize, wide: usize) 
     layer
 }
 
-/// A long good layer in one pass: rows struck, changed and added along the table.
-fn long_layer(rng: &mut Rng, c: usize, keys: &[u64], m: usize, grow: bool) -> Vec<Entry> {
+/// A long good layer in one pass: rows struck (unless it is to grow), changed and added along the table; `side` 0 keeps to the
+/// even positions, 1 to the odd ones.
+fn long_layer(rng: &mut Rng, c: usize, keys: &[u64], m: usize, grow: bool, side: usize) -> Vec<Entry> {
     let n = keys.len();
     let mut layer: Vec<Entry> = Vec::new();
     let first = |v: u64| {
@@ -147,6 +152,10 @@ fn long_layer(rng: &mut Rng, c: usize, keys: &[u64], m: usize, grow: bool) -> Ve
     let mut s = 0;
     while s < n && layer.len() < m {
         let what = rng.below(12);
+        if side < 2 && s % 2 != side {
+            s += 1;
+            continue;
+        }
         if what == 0 && !grow && rows > 0 {
             layer.push(Entry { pos: s as u64, kind: paper::STRIKE, vals: first(keys[s]) });
             rows -= 1;
@@ -193,17 +202,18 @@ fn small(rng: &mut Rng) -> Case {
     }
 }
 
-fn large(rng: &mut Rng) -> Case {
+/// A table at the limits, with layers of up to m entries: both where they may meet, or apart.
+fn large(rng: &mut Rng, m: usize) -> Case {
     let c = [1, 2, 3, 8][rng.below(4)];
-    let n = [4096, 4095, 4000, 600][rng.below(4)];
+    let n = [4097, 4096, 4095, 4000, 600][rng.below(5)];
     let keys: Vec<u64> = (0..n as u64).map(|i| 10 * i + 5 + (i % 7)).collect();
     let rows: Vec<Vec<u64>> = keys.iter().map(|k| row(rng, c, *k)).collect();
-    let m = [512, 511, 100][rng.below(3)];
     let grow = rng.one_in(2);
-    let x = long_layer(rng, c, &keys, m, grow);
-    let y = long_layer(rng, c, &keys, m / 2, grow);
+    let apart = rng.one_in(2);
+    let x = long_layer(rng, c, &keys, m, grow, if apart { 0 } else { 2 });
+    let y = long_layer(rng, c, &keys, m, grow, if apart { 1 } else { 2 });
     let between = paper::column(&x, &keys, 0);
-    let w = long_layer(rng, c, &between, m / 2, grow);
+    let w = long_layer(rng, c, &between, m / 2, grow, 2);
     Case {
         c,
         m: x.len(),
@@ -227,135 +237,162 @@ fn damage(rng: &mut Rng, case: &mut Case) {
         4 => u64::MAX,
         _ => rng.below(3) as u64,
     };
-    match rng.below(9) {
-        0 | 1 if !case.layer.is_empty() => {
-            let i = rng.below(case.layer.len());
-            case.layer[i] = odd(rng);
+    let number = |rng: &mut Rng, slice: &mut Vec<u64>| {
+        if !slice.is_empty() {
+            let i = rng.below(slice.len());
+            slice[i] = odd(rng);
         }
-        2 if !case.other.is_empty() => {
-            let i = rng.below(case.other.len());
-            case.other[i] = odd(rng);
-        }
-        3 if !case.upper.is_empty() => {
-            let i = rng.below(case.upper.len());
-            case.upper[i] = odd(rng);
-        }
-        4 if !case.keys.is_empty() => {
-            let i = rng.below(case.keys.len());
-            case.keys[i] = odd(rng);
-        }
-        5 => case.c = [0, 9, usize::MAX, usize::MAX - 1, case.c + 1][rng.below(5)],
-        6 => case.m = [513, 512, usize::MAX, usize::MAX / 3, case.m + 1, case.m.saturating_sub(1)][rng.below(6)],
-        7 => case.my = [513, usize::MAX, usize::MAX / 5, case.my + 1][rng.below(4)],
+    };
+    let count = |rng: &mut Rng, m: usize| {
+        [513, 512, usize::MAX, usize::MAX / 3, usize::MAX / 5, m + 1, m.saturating_sub(1)][rng.below(7)]
+    };
+    let shorter = |slice: &mut Vec<u64>| slice.truncate(slice.len().saturating_sub(1));
+    match rng.below(14) {
+        0 | 1 | 2 => number(rng, &mut case.layer),
+        3 | 4 => number(rng, &mut case.other),
+        5 | 6 => number(rng, &mut case.upper),
+        7 => number(rng, &mut case.keys),
+        8 => case.c = [0, 9, usize::MAX, usize::MAX - 1, case.c + 1][rng.below(5)],
+        9 => case.m = count(rng, case.m),
+        10 => case.my = count(rng, case.my),
+        11 => case.mw = count(rng, case.mw),
+        12 => shorter(&mut case.layer),
         _ => {
-            let len = case.layer.len();
-            case.layer.truncate(len.saturating_sub(1));
+            shorter(&mut case.other);
+            shorter(&mut case.upper);
         }
     }
 }
 
-fn same<T: PartialEq + std::fmt::Debug>(what: &str, case: &Case, args: &[usize], got: T, want: T) {
-    assert!(got == want, "{what}{args:?}: the archive answers {got:?}, the paper {want:?}, on {case:?}");
+/// One case being tried: the number of the call in `CALLS` and its further arguments stand beside every comparison.
+struct Trial<'a> {
+    case: &'a Case,
+    report: &'a mut Report,
 }
 
-/// A call that writes one slice: both versions on their own copy, guards looked at.
-fn writing(what: &str, case: &Case, args: &[usize], slice: &[u64], mine: impl Fn(&mut [u64]) -> Pair, paper: impl Fn(&mut [u64]) -> Pair) -> (Pair, Vec<u64>) {
-    let mut a = Guarded::new(slice);
-    let mut b = slice.to_vec();
-    let got = mine(a.inner());
-    let want = paper(&mut b);
-    same(what, case, args, got, want);
-    assert!(a.whole(), "{what}{args:?}: a guard word is gone, on {case:?}");
-    same(what, case, args, a.inner().to_vec(), b.clone());
-    (got, b)
+impl Trial<'_> {
+    fn alike<T: PartialEq + std::fmt::Debug>(&self, who: &str, call: usize, args: &[usize], got: &T, want: &T) {
+        let name = CALLS[call];
+        assert!(got == want, "{name} {args:?}: {who} gives {got:?}, the paper {want:?}, on {:?}", self.case);
+    }
+
+    /// A call that only reads.
+    fn reading<T: PartialEq + std::fmt::Debug>(&mut self, call: usize, args: &[usize], ask: impl Fn(&Calls) -> T, want: T) -> T {
+        for who in [&PLAIN, &CARD] {
+            self.alike(who.name, call, args, &ask(who), &want);
+        }
+        want
+    }
+
+    /// A call that writes one slice: each version on its own copy, and the guards looked at.
+    fn writing(
+        &mut self, call: usize, args: &[usize], slice: &[u64], ask: impl Fn(&Calls, &mut [u64]) -> Pair, paper: impl Fn(&mut [u64]) -> Pair,
+    ) -> (Pair, Vec<u64>) {
+        let mut after = slice.to_vec();
+        let want = paper(&mut after);
+        for who in [&PLAIN, &CARD] {
+            let mut copy = Guarded::new(slice);
+            let got = ask(who, copy.inner());
+            self.alike(who.name, call, args, &got, &want);
+            assert!(copy.whole(), "{} {args:?}: {} wrote past its slice, on {:?}", CALLS[call], who.name, self.case);
+            self.alike(who.name, call, args, &copy.inner(), &&mut after[..]);
+        }
+        self.met(call, want.0);
+        (want, after)
+    }
+
+    fn met(&mut self, call: usize, number: u64) {
+        self.report.met[call][number as usize] += 1;
+    }
+}
+
+/// A number up to `most` as a rule, now and then one past it or far past it.
+fn about(rng: &mut Rng, most: usize) -> usize {
+    match rng.below(12) {
+        0 => most + 1,
+        1 => usize::MAX - rng.below(2),
+        _ => rng.below(most + 1),
+    }
 }
 
 /// All calls on one case.
 fn try_all(rng: &mut Rng, case: &Case, report: &mut Report) {
-    let (c, m, layer, keys) = (case.c, case.m, &case.layer[..], &case.keys[..]);
-    let n = keys.len();
-    let mut met = |call: usize, number: u64| report.met[call][number as usize] += 1;
+    let lent = [Guarded::new(&case.layer), Guarded::new(&case.keys), Guarded::new(&case.other), Guarded::new(&case.upper)];
+    let [layer, keys, other, upper] = [0, 1, 2, 3].map(|i| lent[i].shared());
+    let (c, m, n) = (case.c, case.m, keys.len());
+    let mut t = Trial { case, report };
 
-    let fit = card::kw_fit(c, m, layer, keys);
-    same("fit", case, &[], fit, paper::kw_fit(c, m, layer, keys));
-    met(0, fit.0);
+    let fit = t.reading(0, &[], |k| k.fit(c, m, layer, keys), paper::kw_fit(c, m, layer, keys));
+    t.met(0, fit.0);
 
     let j = if rng.one_in(12) { c.wrapping_add(rng.below(2)) } else { rng.below(c.clamp(1, 8)) };
-    let base: Vec<u64> = if j == 0 { keys.to_vec() } else { (0..n).map(|i| rng.below(50) as u64 + i as u64).collect() };
+    let column: Vec<u64> = if j == 0 { keys.to_vec() } else { (0..n).map(|i| rng.below(50) as u64 + i as u64).collect() };
+    let guarded = Guarded::new(&column);
+    let base = guarded.shared();
     let likely = n + m.min(512) + 2;
     let room = if rng.one_in(3) { rng.below(likely + 1) } else { likely };
     let buffer: Vec<u64> = (0..room).map(|_| rng.next()).collect();
-    let (read, shown) = writing("read", case, &[j, room], &buffer, |o| card::kw_read(c, m, layer, &base, j, o), |o| paper::kw_read(c, m, layer, &base, j, o));
-    met(1, read.0);
+    let (read, shown) = t.writing(1, &[j, room], &buffer, |k, o| k.read(c, m, layer, base, j, o), |o| paper::kw_read(c, m, layer, base, j, o));
+    t.reading(2, &[j, room], |k| k.view(c, m, layer, base, j, &shown), paper::kw_view(c, m, layer, base, j, &shown));
+    t.met(2, 0);
 
-    let view = card::kw_view(c, m, layer, &base, j, &shown);
-    same("view", case, &[j, room], view, paper::kw_view(c, m, layer, &base, j, &shown));
-    met(2, 0);
-
-    let s = if rng.one_in(6) { n + 1 + rng.below(2) } else { rng.below(n + 1) };
-    let shift = card::kw_shift_at(c, n, m, layer, s);
-    same("shift", case, &[s], shift, paper::kw_shift_at(c, n, m, layer, s));
-    met(3, shift.0);
-    let at = card::kw_row(c, n, m, layer, s);
-    same("row", case, &[s], at, paper::kw_row(c, n, m, layer, s));
-    met(4, at.0);
-
-    let r = if rng.one_in(30) { usize::MAX } else { rng.below(likely + 1) };
-    let back = card::kw_back(c, n, m, layer, r);
-    same("back", case, &[r], back, paper::kw_back(c, n, m, layer, r));
-    met(5, back.0);
+    let rows = if rng.one_in(20) { [4096, 4097, usize::MAX][rng.below(3)] } else { n };
+    let s = about(rng, rows.min(4097));
+    let shift = t.reading(3, &[rows, s], |k| k.shift_at(c, rows, m, layer, s), paper::kw_shift_at(c, rows, m, layer, s));
+    t.met(3, shift.0);
+    let at = t.reading(4, &[rows, s], |k| k.row(c, rows, m, layer, s), paper::kw_row(c, rows, m, layer, s));
+    t.met(4, at.0);
+    let r = about(rng, if read.0 == 0 { (read.1 as usize).saturating_sub(1) } else { likely });
+    let back = t.reading(5, &[rows, r], |k| k.back(c, rows, m, layer, r), paper::kw_back(c, rows, m, layer, r));
+    t.met(5, back.0);
 
     let k = if n > 0 && rng.one_in(3) { keys[rng.below(n)] } else { key(rng, 40 + 10 * n) };
     let width = if rng.one_in(15) { c.wrapping_add(1).min(12) } else { c.min(12) };
     let mut new = row(rng, width.max(1), k);
     new.truncate(width);
-    let (add, _) = writing("add", case, &[k as usize], layer, |l| card::kw_add(c, m, l, keys, &new), |l| paper::kw_add(c, m, l, keys, &new));
-    met(6, add.0);
-    let (strike, _) = writing("strike", case, &[r], layer, |l| card::kw_strike(c, m, l, keys, r), |l| paper::kw_strike(c, m, l, keys, r));
-    met(7, strike.0);
+    t.writing(6, &[k as usize, width], layer, |k, l| k.add(c, m, l, keys, &new), |l| paper::kw_add(c, m, l, keys, &new));
+    t.writing(7, &[r], layer, |k, l| k.strike(c, m, l, keys, r), |l| paper::kw_strike(c, m, l, keys, r));
     let v = rng.below(4) as u64;
-    let (change, _) =
-        writing("change", case, &[r, j], layer, |l| card::kw_change(c, m, l, keys, r, j, v), |l| paper::kw_change(c, m, l, keys, r, j, v));
-    met(8, change.0);
+    t.writing(8, &[r, j], layer, |k, l| k.change(c, m, l, keys, r, j, v), |l| paper::kw_change(c, m, l, keys, r, j, v));
 
     let whole = (m.min(512) + case.mw.min(512) + 1).min(513) * c.min(8).wrapping_add(2);
     let third: Vec<u64> = (0..if rng.one_in(3) { rng.below(whole + 1) } else { whole }).map(|_| rng.next()).collect();
-    let (combine, joined) = writing(
-        "combine",
-        case,
+    let (combine, joined) = t.writing(
+        9,
         &[third.len()],
         &third,
-        |o| card::kw_combine(c, keys, m, layer, case.mw, &case.upper, o),
-        |o| paper::kw_combine(c, keys, m, layer, case.mw, &case.upper, o),
+        |k, o| k.combine(c, keys, m, layer, case.mw, upper, o),
+        |o| paper::kw_combine(c, keys, m, layer, case.mw, upper, o),
     );
-    met(9, combine.0);
-    let (moved, past) = writing(
-        "move",
-        case,
+    let (moved, past) = t.writing(
+        10,
         &[],
         layer,
-        |l| card::kw_move(c, keys, m, l, case.my, &case.other),
-        |l| paper::kw_move(c, keys, m, l, case.my, &case.other),
+        |k, l| k.move_past(c, keys, m, l, case.my, other),
+        |l| paper::kw_move(c, keys, m, l, case.my, other),
     );
-    met(10, moved.0);
 
-    if combine.0 == 0 && case.rows.iter().all(|r| r.len() == c) {
-        report.combined += 1;
+    let table = case.rows.len() == n && case.rows.iter().all(|r| r.len() == c);
+    if table && combine.0 == 0 {
+        t.report.combined += 1;
         let between = read_table(c, m, layer, &case.rows);
-        let twice = read_table(c, case.mw, &case.upper, &between);
+        let twice = read_table(c, case.mw, upper, &between);
         let once = read_table(c, combine.1 as usize, &joined, &case.rows);
-        same("combine, read back", case, &[], once, twice);
+        t.alike("read through the combination", 9, &[], &once, &twice);
     }
-    if moved.0 == 0 && case.rows.iter().all(|r| r.len() == c) {
-        let mut theirs = case.other.clone();
-        if card::kw_move(c, keys, case.my, &mut theirs, m, layer).0 == 0 {
-            report.both_orders += 1;
-            let first = read_table(c, m, &past, &read_table(c, case.my, &case.other, &case.rows));
-            let second = read_table(c, case.my, &theirs, &read_table(c, m, layer, &case.rows));
-            same("both orders", case, &[], first.clone(), second);
-            let done = paper::table(&paper::entries(c, case.my, &case.other), &case.rows);
-            same("redone by key", case, &[], first, paper::redone(keys, &paper::entries(c, m, layer), &done));
-        }
+    if table && moved.0 == 0 {
+        let mut theirs = other.to_vec();
+        let (number, _) = CARD.move_past(c, keys, case.my, &mut theirs, m, layer);
+        t.alike("moved the other way", 10, &[], &number, &0);
+        t.report.both_orders += 1;
+        let first = read_table(c, m, &past, &read_table(c, case.my, other, &case.rows));
+        let second = read_table(c, case.my, &theirs, &read_table(c, m, layer, &case.rows));
+        t.alike("the one order", 10, &[], &first, &second);
+        let done = paper::table(&paper::entries(c, case.my, other), &case.rows);
+        t.alike("read after the move", 10, &[], &first, &paper::redone(keys, &paper::entries(c, m, layer), &done));
+    }
+    for (slice, was) in lent.iter().zip([&case.layer, &case.keys, &case.other, &case.upper]).chain([(&guarded, &column)]) {
+        assert!(slice.whole() && slice.shared() == &was[..], "a slice lent for reading has changed, on {case:?}");
     }
 }
 
@@ -365,7 +402,7 @@ fn read_table(c: usize, m: usize, layer: &[u64], rows: &[Vec<u64>]) -> Vec<Vec<u
         .map(|j| {
             let base: Vec<u64> = rows.iter().map(|r| r[j]).collect();
             let mut out = vec![0; rows.len() + m];
-            let (number, count) = card::kw_read(c, m, layer, &base, j, &mut out);
+            let (number, count) = CARD.read(c, m, layer, &base, j, &mut out);
             assert_eq!(number, 0);
             out.truncate(count as usize);
             out
@@ -381,14 +418,18 @@ pub fn run(seed: u64, calls: u64) -> Report {
     let mut round = 0u64;
     while report.calls() < calls {
         round += 1;
-        let mut case = if round % 700 == 0 { large(&mut rng) } else { small(&mut rng) };
-        let whole = case.clone();
+        let mut case = match round % 4000 {
+            0 => large(&mut rng, 512),
+            2000 => large(&mut rng, 511),
+            k if k % 100 == 50 => large(&mut rng, (k / 100 % 10) as usize),
+            _ => small(&mut rng),
+        };
+        let whole = case.keys.clone();
         if rng.one_in(3) {
             damage(&mut rng, &mut case);
         }
-        if case.rows.len() != case.keys.len() || case.keys != whole.keys {
-            case.rows.clear();
-            case.rows.push(vec![]); // no table: the keys are not those of the rows
+        if case.keys != whole {
+            case.rows.clear(); // no table: the keys are not those of the rows
         }
         try_all(&mut rng, &case, &mut report);
     }

@@ -1,6 +1,6 @@
 //! Compares the archive with an independent implementation of the paper.
 
-pub mod card;
+pub mod calls;
 pub mod diff;
 pub mod paper;
 

@@ -9,3 +9,6 @@ pub mod Answered
 pub mod Rows
 pub mod Showing
 pub mod Added
+pub mod Accepting
+pub mod Laws
+pub mod Unique

@@ -1,3 +1,4 @@
 pub mod Landing
 pub mod Outcome
 pub mod Ready
+pub mod Runs

@@ -1,4 +1,4 @@
--- A walk along X with a cursor in Y: the cursor serves every entry of X from here on, tells whether this one is in conflict, and gives its new position.
+-- A walk along X with a cursor in Y that serves every entry of X from here on: its conflict, and its new position.
 -- Assumes nothing.
 use Prim.Native.Nat.{ℕ, _+_, _*_, _-_, _≤_, _<_}
 use native.Mathlib.Nat.{sub-zero}
@@ -32,14 +32,17 @@ earlier e d = before d e
 pub record Serves (X Y L : Layer) (adds strikes : ℕ) : Type 0 where
   pub rest : (e : Edit) → Mem e X → ahead (earlier e) Y ≡ ahead (earlier e) L
   pub added : (e : Edit) → Mem e X → count isAdd (passed (earlier e) Y) ≡ adds + count isAdd (passed (earlier e) L)
-  pub struck : (e : Edit) → Mem e X → count isStrike (passed (earlier e) Y) ≡ strikes + count isStrike (passed (earlier e) L)
+  pub struck : (e : Edit) → Mem e X
+      → count isStrike (passed (earlier e) Y) ≡ strikes + count isStrike (passed (earlier e) L)
 
 serves-start : (X Y : Layer) → Serves X Y Y 0 0
 serves-start X Y = record { rest = λ e m. refl; added = λ e m. omega arith; struck = λ e m. omega arith }
 
 -- moved on past what stands before e, it serves the later edits
-serves-on : (e : Edit) (X Y L : Layer) (adds strikes : ℕ) → ((d : Edit) → Mem d X → before e d ≡ true) → Serves (e ∷ X) Y L adds strikes
-    → Serves X Y (ahead (earlier e) L) (adds + count isAdd (passed (earlier e) L)) (strikes + count isStrike (passed (earlier e) L))
+serves-on : (e : Edit) (X Y L : Layer) (adds strikes : ℕ) → ((d : Edit) → Mem d X → before e d ≡ true)
+    → Serves (e ∷ X) Y L adds strikes
+    → Serves X Y (ahead (earlier e) L) (adds + count isAdd (passed (earlier e) L))
+    (strikes + count isStrike (passed (earlier e) L))
 serves-on e X Y L adds strikes o S = record {
   rest = λ d m. S .rest d (next m) ∙ ahead-more (earlier e) (earlier d) (more d m) L;
   added = λ d m. omega (arith, S .added d (next m), passed-more (earlier e) (earlier d) (more d m) isAdd L);
@@ -77,7 +80,8 @@ module _ (c mx : ℕ) (xs : List ℕ) (my : ℕ) (ys : List ℕ) where
   }
 
   -- a turn: the entry of X from `from`, by its head h, and the cursor r that has moved on past what stands before it
-  module _ {i from : ℕ} {k : Cursor} (A : Alongside i from k) (h : i < mx) (e : Head) (is : e ≡ headOf (entryAt c from xs)) {r : Cursor}
+  module _ {i from : ℕ} {k : Cursor} (A : Alongside i from k) (h : i < mx) (e : Head)
+      (is : e ≡ headOf (entryAt c from xs)) {r : Cursor}
       (moves : Advanced c my ys (λ d. before d (seen e)) k r) where
     abbrev this : Edit
     this = editOf (entryAt c from xs)
@@ -106,7 +110,8 @@ module _ (c mx : ℕ) (xs : List ℕ) (my : ℕ) (ys : List ℕ) where
       mine = λ d m. A .mine d (rw step (next m));
       serves =
           rw (moved-on .rest, moved-on .added, moved-on .struck)
-          (serves-on this (toCome (i + 1) (from + (c + 2))) (layerOf c my ys) (left c my ys k) (k .adds) (k .strikes) ((rw step at (A .sorted)) .0) serves-this);
+          (serves-on this (toCome (i + 1) (from + (c + 2))) (layerOf c my ys) (left c my ys k) (k .adds) (k .strikes)
+          ((rw step at (A .sorted)) .0) serves-this);
     }
 
     -- it is in conflict where it meets a rule with the edit at the cursor
@@ -123,7 +128,8 @@ module _ (c mx : ℕ) (xs : List ℕ) (my : ℕ) (ys : List ℕ) where
 
     -- its new position
     pub position-here : AllPairs before (layerOf c my ys)
-        → (moved (layerOf c my ys) this ≡ at ((entryAt c from xs .pos + r .adds) - r .strikes) (deedOf (entryAt c from xs .kind) (entryAt c from xs .vals)))
+        → (moved (layerOf c my ys) this
+        ≡ at ((entryAt c from xs .pos + r .adds) - r .strikes) (deedOf (entryAt c from xs .kind) (entryAt c from xs .vals)))
         × (r .strikes ≤ entryAt c from xs .pos)
     position-here o =
         let d = deedOf (entryAt c from xs .kind) (entryAt c from xs .vals) in

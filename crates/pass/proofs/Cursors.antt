@@ -61,7 +61,8 @@ pub record Going (c m : ℕ) (ys : List ℕ) (f : Edit → Bool) (from k : Curso
   pub stands : Within c m ys k
   pub rest : ahead f (left c m ys from) ≡ ahead f (left c m ys k)
   pub added : from .adds + count isAdd (passed f (left c m ys from)) ≡ k .adds + count isAdd (passed f (left c m ys k))
-  pub struck : from .strikes + count isStrike (passed f (left c m ys from)) ≡ k .strikes + count isStrike (passed f (left c m ys k))
+  pub struck :
+      from .strikes + count isStrike (passed f (left c m ys from)) ≡ k .strikes + count isStrike (passed f (left c m ys k))
 
 pub going-start : {c m : ℕ} {ys : List ℕ} (f : Edit → Bool) {k : Cursor} → Within c m ys k → Going c m ys f k k
 going-start f W = record { stands = W; rest = refl; added = refl; struck = refl }
@@ -81,14 +82,21 @@ module _ {c m : ℕ} {ys : List ℕ} {f : Edit → Bool} {from k : Cursor} (G : 
   pub going-end : m ≤ k .i → Advanced c m ys f from k
   going-end h = let e = left-end c m ys k h in stop (rw e) (rw e)
 
-  pub going-on : (r : Cursor) → k .i < m → f (editOf (entryAt c (k .at) ys)) ≡ true → Next c m ys k r → Going c m ys f from r
+  pub going-on : (r : Cursor) → k .i < m → f (editOf (entryAt c (k .at) ys)) ≡ true → Next c m ys k r
+      → Going c m ys f from r
   going-on r h t N = record {
     stands = record {
       entries = G .stands .entries;
       gone = omega (arith, N .number);
       room = rw (N .number, N .from) (raw.next c m (k .i) (k .at) (length ys) h (G .stands .room));
       few-adds = omega (arith, N .number, N .adds, G .stands .few-adds, one-le (eqb (entryAt c (k .at) ys .kind) ADD));
-      few-strikes = omega (arith, N .number, N .strikes, G .stands .few-strikes, one-le (eqb (entryAt c (k .at) ys .kind) STRIKE));
+      few-strikes = omega (
+        arith,
+        N .number,
+        N .strikes,
+        G .stands .few-strikes,
+        one-le (eqb (entryAt c (k .at) ys .kind) STRIKE),
+      );
     };
     rest = G .rest ∙ rw (next-left h N, t);
     added = G .added ∙ rw (next-left h N, t) (omega (arith, N .adds, ap one (add-kind (entryAt c (k .at) ys))));

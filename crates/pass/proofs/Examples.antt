@@ -19,7 +19,7 @@ use Rattle.model.specs.Move.{addPosition}
 use Rattle.model.specs.Refusals.{refusal, breaksForm}
 use Rattle.model.specs.Calls.{written, movedLayer, moveAnswer}
 use Rattle.model.specs.Examples.{four, Example, edits, shifts, passes, refuses, combines, examples}
-use Rattle.pass.specs.Promises.{MovesTo, StaysAt, OfCall, EachOfCall}
+use Rattle.pass.specs.Promises.{MovesTo, StaysAt, EachOfCall}
 
 -- the one outcome of moving X past Y in the base of the examples
 abbrev answerOf : Layer → Layer → Answer
@@ -46,33 +46,28 @@ moves-to X Y ps T g r x′ o =
 stays-at : (X Y : Layer) (place : ℕ) → answerOf X Y ≡ Refused (refusal 8 place) → StaysAt X Y place
 stays-at X Y place g r x′ o = let e = o .0 ∙ g in (e, o .1 ∙ ap (sliceOf X Y) e)
 
--- what is computed for a line of the table
-abbrev Computed : Example → Type 0
-Computed (edits steps L T) = Unit {0}
-Computed (shifts L ss zs) = Unit {0}
-Computed (passes X Y ps qs T) = Goes X Y ps T × Goes Y X qs T
-Computed (refuses X Y place) = answerOf X Y ≡ Refused (refusal 8 place)
-Computed (combines R W L) = Unit {0}
+-- what is computed for the lines of a table
+abbrev Computed : List Example → Type 0
+Computed [] = Unit {0}
+Computed (edits steps L T ∷ es) = Computed es
+Computed (shifts L ss zs ∷ es) = Computed es
+Computed (combines R W L ∷ es) = Computed es
+Computed (passes X Y ps qs T ∷ es) = (Goes X Y ps T × Goes Y X qs T) × Computed es
+Computed (refuses X Y place ∷ es) = (answerOf X Y ≡ Refused (refusal 8 place)) × Computed es
 
-abbrev AllComputed : List Example → Type 0
-AllComputed [] = Unit {0}
-AllComputed (e ∷ es) = Computed e × AllComputed es
-
-of-call : (e : Example) → Computed e → OfCall e
-of-call (edits steps L T) g = tt
-of-call (shifts L ss zs) g = tt
-of-call (passes X Y ps qs T) g = (moves-to X Y ps T (g .0), moves-to Y X qs T (g .1))
-of-call (refuses X Y place) g = stays-at X Y place g
-of-call (combines R W L) g = tt
-
-each-of-call : (es : List Example) → AllComputed es → EachOfCall es
+each-of-call : (es : List Example) → Computed es → EachOfCall es
 each-of-call [] g = tt
-each-of-call (e ∷ es) g = (of-call e (g .0), each-of-call es (g .1))
-
-computed : AllComputed examples
-unfolding examples moveAnswer argsOk breaksForm formPlace fitPlace layerOf entriesAt flat conflict conflictPlace rowOf addPosition key put
-computed =
-    (tt, (tt, (tt, (tt, (tt, (tt, (tt, (((refl, refl, refl), (refl, refl, refl)), (refl, (refl, (((refl, refl, refl), (refl, refl, refl)), (((refl, refl, refl), (refl, refl, refl)), (tt, (tt, tt))))))))))))))
+each-of-call (edits steps L T ∷ es) g = each-of-call es g
+each-of-call (shifts L ss zs ∷ es) g = each-of-call es g
+each-of-call (combines R W L ∷ es) g = each-of-call es g
+each-of-call (passes X Y ps qs T ∷ es) g =
+    ((moves-to X Y ps T (g .0 .0), moves-to Y X qs T (g .0 .1)), each-of-call es (g .1))
+each-of-call (refuses X Y place ∷ es) g = (stays-at X Y place (g .0), each-of-call es (g .1))
 
 pub examples-of-call : EachOfCall examples
-examples-of-call = each-of-call examples computed
+unfolding examples moveAnswer argsOk breaksForm formPlace fitPlace layerOf entriesAt flat conflict conflictPlace rowOf addPosition key put
+examples-of-call =
+    each-of-call examples (
+      ((refl, refl, refl), (refl, refl, refl)),
+      (refl, (refl, (((refl, refl, refl), (refl, refl, refl)), (((refl, refl, refl), (refl, refl, refl)), tt)))),
+    )

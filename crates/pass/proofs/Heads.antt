@@ -6,6 +6,7 @@ use mathlib.Core.List.{List, [], _∷_}
 use Prim.Native.Nat.{ℕ}
 use lib.ListN.{getD}
 use lib.Dec.{ltb, eqb}
+use borrow.Author.Tests.{eq-eqb, ne-eqb}
 use Rattle.model.specs.declared.Entry.{Entry}
 use Rattle.model.specs.Row.{Row, key}
 use Rattle.model.specs.Cell.{to}
@@ -101,18 +102,54 @@ module _ (a b x y : Bool) (u v q k : ℕ) where
         ]
       ]
 
-pub rule-by : (d e : Head) → ruleNumber (clash (seen d) (seen e))
-    ≡ cond (eqb (d .kind) ADD && eqb (e .kind) ADD) (cond (eqb (d .first) (e .first)) 3 0)
-    (cond (eqb (d .kind) ADD || eqb (e .kind) ADD) 0
-    (cond (eqb (d .pos) (e .pos)) (cond (eqb (d .kind) STRIKE || eqb (e .kind) STRIKE) 1 (cond (eqb (d .kind) (e .kind)) 2 0)) 0))
-rule-by d e =
-    clash-kinds (eqb (d .kind) ADD) (eqb (d .kind) STRIKE) (eqb (e .kind) ADD) (eqb (e .kind) STRIKE) (d .first) (e .first) (d .kind) (e .kind)
-    (d .pos) (e .pos)
+-- the rule that two heads meet, test by test
+module _ (d e : Head) where
+  abbrev number-met : ℕ
+  number-met = ruleNumber (clash (seen d) (seen e))
+
+  rule-by : number-met
+      ≡ cond (eqb (d .kind) ADD && eqb (e .kind) ADD) (cond (eqb (d .first) (e .first)) 3 0)
+      (cond (eqb (d .kind) ADD || eqb (e .kind) ADD) 0
+      (cond (eqb (d .pos) (e .pos))
+      (cond (eqb (d .kind) STRIKE || eqb (e .kind) STRIKE) 1 (cond (eqb (d .kind) (e .kind)) 2 0)) 0))
+  rule-by =
+      clash-kinds (eqb (d .kind) ADD) (eqb (d .kind) STRIKE) (eqb (e .kind) ADD) (eqb (e .kind) STRIKE) (d .first)
+      (e .first) (d .kind) (e .kind) (d .pos) (e .pos)
+
+  module _ (both : (eqb (d .kind) ADD && eqb (e .kind) ADD) ≡ true) where
+    pub one-key : d .first ≡ e .first → 3 ≡ number-met
+    one-key h = rw (rule-by, both, eq-eqb (d .first) (e .first) h)
+
+    pub two-keys : (d .first ≡ e .first → ⊥) → 0 ≡ number-met
+    two-keys h = rw (rule-by, both, ne-eqb (d .first) (e .first) h)
+
+  module _ (some : (eqb (d .kind) ADD && eqb (e .kind) ADD) ≡ false) where
+    pub one-adds : (eqb (d .kind) ADD || eqb (e .kind) ADD) ≡ true → 0 ≡ number-met
+    one-adds h = rw (rule-by, some, h)
+
+    module _ (none-adds : (eqb (d .kind) ADD || eqb (e .kind) ADD) ≡ false) where
+      pub two-rows : (d .pos ≡ e .pos → ⊥) → 0 ≡ number-met
+      two-rows h = rw (rule-by, some, none-adds, ne-eqb (d .pos) (e .pos) h)
+
+      module _ (one-row : d .pos ≡ e .pos) where
+        pub row-struck : (eqb (d .kind) STRIKE || eqb (e .kind) STRIKE) ≡ true → 1 ≡ number-met
+        row-struck h = rw (rule-by, some, none-adds, eq-eqb (d .pos) (e .pos) one-row, h)
+
+        module _ (kept : (eqb (d .kind) STRIKE || eqb (e .kind) STRIKE) ≡ false) where
+          pub one-cell : d .kind ≡ e .kind → 2 ≡ number-met
+          one-cell h =
+              rw (rule-by, some, none-adds, eq-eqb (d .pos) (e .pos) one-row, kept, eq-eqb (d .kind) (e .kind) h)
+
+          pub two-cells : (d .kind ≡ e .kind → ⊥) → 0 ≡ number-met
+          two-cells h =
+              rw (rule-by, some, none-adds, eq-eqb (d .pos) (e .pos) one-row, kept, ne-eqb (d .kind) (e .kind) h)
 
 pub before-by : (d e : Head) → (ltb (d .pos) (e .pos) || (eqb (d .pos) (e .pos)
     && ((eqb (d .kind) ADD && (not (eqb (e .kind) ADD) || ltb (d .first) (e .first)))
-    || (not (eqb (d .kind) ADD) && (not (eqb (d .kind) STRIKE) && (not (eqb (e .kind) ADD) && (not (eqb (e .kind) STRIKE) && ltb (d .kind) (e .kind))))))))
+    || (not (eqb (d .kind) ADD) && (not (eqb (d .kind) STRIKE)
+    && (not (eqb (e .kind) ADD) && (not (eqb (e .kind) STRIKE) && ltb (d .kind) (e .kind))))))))
     ≡ before (seen d) (seen e)
 before-by d e =
     ap (λ (t : Bool). ltb (d .pos) (e .pos) || (eqb (d .pos) (e .pos) && t))
-    (level-kinds (eqb (d .kind) ADD) (eqb (d .kind) STRIKE) (eqb (e .kind) ADD) (eqb (e .kind) STRIKE) (d .first) (e .first) (d .kind) (e .kind))
+    (level-kinds (eqb (d .kind) ADD) (eqb (d .kind) STRIKE) (eqb (e .kind) ADD) (eqb (e .kind) STRIKE) (d .first)
+    (e .first) (d .kind) (e .kind))

@@ -20,9 +20,11 @@ use Rattle.pass.proofs.Alongside.{toCome, Alongside, alongside-start, a
 pub record Looking (c mx : ℕ) (xs : List ℕ) (my : ℕ) (ys : List ℕ) (i from : ℕ) (k : Cursor) : Type 0 where
   pub walk : Alongside c mx xs my ys i from k
   pub matched : Matched (layerOf c mx xs) (layerOf c my ys)
-  pub placed : conflictPlace (layerOf c mx xs) (layerOf c my ys) ≡ i + firstAt (clashesWith (layerOf c my ys)) (toCome c mx xs my ys i from)
+  pub placed : conflictPlace (layerOf c mx xs) (layerOf c my ys)
+      ≡ i + firstAt (clashesWith (layerOf c my ys)) (toCome c mx xs my ys i from)
 
-pub looking-start : (c mx : ℕ) (xs : List ℕ) (my : ℕ) (ys : List ℕ) → Walkable c mx xs my ys → Looking c mx xs my ys 0 0 outset
+pub looking-start : (c mx : ℕ) (xs : List ℕ) (my : ℕ) (ys : List ℕ) → Walkable c mx xs my ys
+    → Looking c mx xs my ys 0 0 outset
 unfolding conflictPlace layerOf
 looking-start c mx xs my ys W = record {
   walk = alongside-start c mx xs my ys W;
@@ -30,16 +32,19 @@ looking-start c mx xs my ys W = record {
   placed = rw (zero-add, sub-zero);
 }
 
-module _ {c mx : ℕ} {xs : List ℕ} {my : ℕ} {ys : List ℕ} {i from : ℕ} {k : Cursor} (L : Looking c mx xs my ys i from k) where
+module _ {c mx : ℕ} {xs : List ℕ} {my : ℕ} {ys : List ℕ} {i from : ℕ} {k : Cursor}
+    (L : Looking c mx xs my ys i from k) where
   pub looking-end : mx ≤ i → i ≡ conflictPlace (layerOf c mx xs) (layerOf c my ys)
   looking-end h = sym (L .placed ∙ rw (raw.edits-end c mx i from xs h) (omega arith))
 
-  module _ (h : i < mx) (e : Head) (is : e ≡ headOf (entryAt c from xs)) {r : Cursor} (moves : Advanced c my ys (λ d. before d (seen e)) k r) where
+  module _ (h : i < mx) (e : Head) (is : e ≡ headOf (entryAt c from xs)) {r : Cursor}
+      (moves : Advanced c my ys (λ d. before d (seen e)) k r) where
     -- whether the entry looked at is in conflict
     judged : clashesWith (layerOf c my ys) (editOf (entryAt c from xs)) ≡ met (ruleAhead (seen e) (left c my ys r))
     judged = conflict-here c mx xs my ys (L .walk) h e is moves (L .matched)
 
-    pub looking-found : met (ruleAhead (seen e) (left c my ys r)) ≡ true → i ≡ conflictPlace (layerOf c mx xs) (layerOf c my ys)
+    pub looking-found : met (ruleAhead (seen e) (left c my ys r)) ≡ true
+        → i ≡ conflictPlace (layerOf c mx xs) (layerOf c my ys)
     looking-found t = sym (L .placed ∙ rw (raw.edits-step c mx i from xs h, judged ∙ t) (omega arith))
 
     pub looking-on : met (ruleAhead (seen e) (left c my ys r)) ≡ false → Looking c mx xs my ys (i + 1) (from + (c + 2)) r

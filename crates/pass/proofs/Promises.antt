@@ -1,4 +1,4 @@
--- What is promised of a move: demand 3 of the call, one outcome for each input, a layer past itself, and the paper's examples.
+-- What is promised of a move: demand 3 of the call, one outcome for each input, and a layer past itself.
 -- Assumes nothing.
 use Prim.Native.Nat.{ℕ, suc, zero, _+_, _-_, _≤_, _<_}
 use native.Mathlib.Omega.{arith}
@@ -53,7 +53,8 @@ module _ {A : Type 0} (f : A → Bool) (d : A) where
   first-passes (x ∷ xs) h = go (f x) refl h (first-passes xs)
     where
       go : (t : Bool) → f x ≡ t → cond t 0 (suc (firstAt f xs)) < suc (length xs)
-          → (firstAt f xs < length xs → f (getD xs (firstAt f xs) d) ≡ true) → f (getD (x ∷ xs) (cond t 0 (suc (firstAt f xs))) d) ≡ true
+          → (firstAt f xs < length xs → f (getD xs (firstAt f xs) d) ≡ true)
+          → f (getD (x ∷ xs) (cond t 0 (suc (firstAt f xs))) d) ≡ true
       go true e g ih = e
       go false e g ih = ih (omega arith)
 
@@ -61,7 +62,8 @@ module _ {A : Type 0} (f : A → Bool) (d : A) where
   first-least [] i h = absurd (omega arith)
   first-least (x ∷ xs) i h = go (f x) refl i h (first-least xs)
     where
-      go : (t : Bool) → f x ≡ t → (i : ℕ) → i < cond t 0 (suc (firstAt f xs)) → ((j : ℕ) → j < firstAt f xs → f (getD xs j d) ≡ false)
+      go : (t : Bool) → f x ≡ t → (i : ℕ) → i < cond t 0 (suc (firstAt f xs))
+          → ((j : ℕ) → j < firstAt f xs → f (getD xs j d) ≡ false)
           → f (getD (x ∷ xs) i d) ≡ false
       go true e i g ih = absurd (omega arith)
       go false e zero g ih = e
@@ -82,7 +84,8 @@ of-passed : (ts : List Test) (k : ℕ) → Passed ts → firstMet Refused ts (Do
 of-passed [] k p = refl
 of-passed (refuse n q t ∷ ts) k p = rw (p .0) (of-passed ts k (p .1))
 
--- Demand 3, the half that refuses: past refusals 1 to 4, the answer is 8 exactly on the demand's cases, at the lowest entry.
+-- Demand 3, the half that refuses: past refusals 1 to 4, the answer is 8 exactly on the demand's cases, at the lowest
+-- entry.
 module _ (c : ℕ) (K : List ℕ) (mx : ℕ) (x : List ℕ) (my : ℕ) (y : List ℕ) (four : PassesFour c K mx x my y) where
   stages : Passed (formTests c (length K) mx x my y) × Passed (fitTests K (layerOf c mx x) (layerOf c my y))
   stages =
@@ -98,7 +101,8 @@ module _ (c : ℕ) (K : List ℕ) (mx : ℕ) (x : List ℕ) (my : ℕ) (y : List
       third-answers c K mx x my y 0 0 (of-passed (formTests c (length K) mx x my y) 0 (stages .0)) 0
       (of-passed (fitTests K (layerOf c mx x) (layerOf c my y)) 0 (stages .1))
 
-  eight : (t u : Bool) (p : ℕ) → numberOf (cond t (Refused (refusal 8 p)) (cond u (Refused (refusal 10 0)) (Done mx))) ≡ 8 → t ≡ true
+  eight : (t u : Bool) (p : ℕ)
+      → numberOf (cond t (Refused (refusal 8 p)) (cond u (Refused (refusal 10 0)) (Done mx))) ≡ 8 → t ≡ true
   eight true u p h = refl
   eight false true p h = absurd (omega arith)
   eight false false p h = absurd (omega arith)
@@ -113,7 +117,9 @@ module _ (c : ℕ) (K : List ℕ) (mx : ℕ) (x : List ℕ) (my : ℕ) (y : List
       let X = layerOf c mx x in
       let Y = layerOf c my y in
       let rows = rowsAfter (rowsAfter (length K) Y) X in (
-        λ h. conflicting X Y (eight (conflict X Y) (ltb 4096 rows) (conflictPlace X Y) (ap numberOf (answer ∙ sym (o .0)) ∙ h)),
+        λ h.
+            let e = ap numberOf (answer ∙ sym (o .0)) ∙ h in
+            conflicting X Y (eight (conflict X Y) (ltb 4096 rows) (conflictPlace X Y) e),
         λ C.
             let t = of-conflicting X Y C in
             (o .0 ∙ (sym answer ∙ rw t), lowest X Y t),
@@ -139,7 +145,8 @@ moved-strikes X Y = count-map (moved Y) isStrike X ∙ count-same (λ e. isStrik
     each (at s (strike k)) = refl
     each (at s (change j f)) = refl
 
--- Demand 3, the half that accepts: where neither way is refused, both orders, read by the reading rule, are one table: the first set done, then the second redone by key.
+-- Demand 3, the half that accepts: where neither way is refused, both orders, read by the reading rule, are one
+-- table: the first set done, then the second redone by key.
 module _ (c : ℕ) (T : Table) (mx : ℕ) (x : List ℕ) (my : ℕ) (y : List ℕ) where
   tested : (m : ℕ) (xs : List ℕ) → Fitted c m xs (keys T) → Tested c T (layerOf c m xs)
   tested m xs F = record { formed = rw (sym (length-map T key)) (F .form .ordered); fitted = F .fit }
@@ -150,7 +157,8 @@ module _ (c : ℕ) (T : Table) (mx : ℕ) (x : List ℕ) (my : ℕ) (y : List �
       → MovedPast c T (layerOf c mx x) (layerOf c my y) mx x′
   moved-past k M P r x′ o e = record {
     holds = back;
-    formed = rw back (and-of (inOrder c rows (move X Y)) (leb (rowsAfter rows (move X Y)) 4096) (P .formed) (le-leb (rowsAfter rows (move X Y)) 4096 few));
+    formed = rw back (and-of (inOrder c rows (move X Y)) (leb (rowsAfter rows (move X Y)) 4096) (P .formed)
+        (le-leb (rowsAfter rows (move X Y)) 4096 few));
     fitted = rw back (P .fitted);
     redone = rw back (P .redone);
   }
@@ -199,7 +207,8 @@ module _ (c : ℕ) (T : Table) (mx : ℕ) (x : List ℕ) (my : ℕ) (y : List �
 
       D : Past c T (layerOf c mx x) (layerOf c my y) × Past c T (layerOf c my y) (layerOf c mx x)
       D =
-          demand3 c T (layerOf c mx x) (layerOf c my y) (M .sides .mine .rising) (tested c T mx x my y mx x (M .sides .mine))
+          demand3 c T (layerOf c mx x) (layerOf c my y) (M .sides .mine .rising)
+          (tested c T mx x my y mx x (M .sides .mine))
           (tested c T mx x my y my y (M .sides .theirs)) (M .free)
 
       mine : MovedPast c T (layerOf c mx x) (layerOf c my y) mx x′
@@ -209,7 +218,8 @@ module _ (c : ℕ) (T : Table) (mx : ℕ) (x : List ℕ) (my : ℕ) (y : List �
       theirs = moved-past c T my y mx x l N (D .1) s y′ p f
 
   pub both-orders : (K : List ℕ) → keys T ≡ K → (r s : Answer) (x′ y′ : List ℕ)
-      → Outcome c K mx x my y r x′ → Outcome c K my y mx x s y′ → (k l : ℕ) → r ≡ Done k → s ≡ Done l → BothOrders c T mx x x′ my y y′
+      → Outcome c K mx x my y r x′ → Outcome c K my y mx x s y′ → (k l : ℕ) → r ≡ Done k → s ≡ Done l
+      → BothOrders c T mx x x′ my y y′
   both-orders K h r s x′ y′ o p = both-orders-keys r s x′ y′ (rw (← h) at o) (rw (← h) at p)
 
 -- A layer past itself: 8 where it is not empty, accepted where it is.
@@ -223,12 +233,15 @@ unfolding conflict conflictPlace
 own-place [] h = absurd (omega arith)
 own-place (e ∷ X) h = (rw (own e), rw (own e))
 
-pub itself-refused : (c : ℕ) (K : List ℕ) (m : ℕ) (x : List ℕ) → PassesFour c K m x m x → 0 < m → (r : Answer) (x′ : List ℕ) → Outcome c K m x m x r x′
+pub itself-refused : (c : ℕ) (K : List ℕ) (m : ℕ) (x : List ℕ) → PassesFour c K m x m x → 0 < m
+    → (r : Answer) (x′ : List ℕ) → Outcome c K m x m x r x′
     → (r ≡ Refused (refusal 8 0)) × (x′ ≡ x)
 itself-refused c K m x four h r x′ o =
     let X = layerOf c m x in
     let w = own-place X (omega (arith, layer-length c m x)) in
-    let e = (eight-exactly c K m x m x four r x′ o .1 (conflicting X X (w .0))) .0 ∙ ap (λ (p : ℕ). Refused (refusal 8 p)) (w .1) in
+    let e =
+    (eight-exactly c K m x m x four r x′ o .1 (conflicting X X (w .0))) .0
+    ∙ ap (λ (p : ℕ). Refused (refusal 8 p)) (w .1) in
     (e, o .1 ∙ ap (λ (a : Answer). written a (flat c (movedLayer c m x m x)) x) e)
 
 module _ (c : ℕ) (K x : List ℕ) (ok : argsOk c (length K) 0 (length x) ≡ true) (rises : ascending K ≡ true) where
@@ -236,7 +249,12 @@ module _ (c : ℕ) (K x : List ℕ) (ok : argsOk c (length K) 0 (length x) ≡ t
   unfolding moveAnswer breaksForm formPlace fitPlace layerOf entriesAt conflict
   empty-answer =
       let n = args-held c (length K) 0 x ok .1 in
-      rw (ok, le-ltb 4096 ((length K + 0) - 0) (omega arith), rises, le-ltb 4096 ((((length K + 0) - 0) + 0) - 0) (omega arith))
+      rw (
+        ok,
+        le-ltb 4096 ((length K + 0) - 0) (omega arith),
+        rises,
+        le-ltb 4096 ((((length K + 0) - 0) + 0) - 0) (omega arith),
+      )
 
   pub itself-accepted : (r : Answer) (x′ : List ℕ) → Outcome c K 0 x 0 x r x′ → (r ≡ Done 0) × (x′ ≡ x)
   unfolding flat layerOf entriesAt

@@ -56,11 +56,16 @@ module _ (c n : ℕ) (some : 1 ≤ c) (few : c ≤ 8) where
       let from : 0 + (c + 2) ≡ length (numbersOf c e) + 0 = omega arith in
       let one = read-one e (gather (numbersOf c) L ++ zs) (h e (here refl)) in
       let rest = read-all L zs (λ d m. h d (next m)) in
-      rw (append-assoc (numbersOf c e) (gather (numbersOf c) L) zs, from, entries-past c (length L) 0 (numbersOf c e) (gather (numbersOf c) L ++ zs))
+      rw (
+        append-assoc (numbersOf c e) (gather (numbersOf c) L) zs,
+        from,
+        entries-past c (length L) 0 (numbersOf c e) (gather (numbersOf c) L ++ zs),
+      )
       (λ i. one i ∷ rest i)
 
   -- the first m entries of a slice that begins with a layer's numbers are the layer
   pub read-back : (m : ℕ) (L : Layer) (zs : List ℕ) → length L ≡ m → ((e : Edit) → Mem e L → sound c n e ≡ true)
       → layerOf c m (flat c L ++ zs) ≡ L
   unfolding layerOf flat
-  read-back m L zs l h = ap (λ (k : ℕ). map editOf (entriesAt c k 0 (gather (numbersOf c) L ++ zs))) (sym l) ∙ read-all L zs h
+  read-back m L zs l h =
+      ap (λ (k : ℕ). map editOf (entriesAt c k 0 (gather (numbersOf c) L ++ zs))) (sym l) ∙ read-all L zs h

@@ -1,4 +1,4 @@
--- The pass that writes X's new positions: what is written so far, then what is to come, is the moved layer; what is to come is untouched.
+-- The pass that writes X's new positions: what is written, then what is to come, is the moved layer.
 -- Assumes nothing.
 use Prim.Native.Nat.{ℕ, suc, _+_, _*_, _-_, _≤_, _<_}
 use native.Mathlib.Nat.{sub-zero, zero-mul, suc-mul}
@@ -46,14 +46,16 @@ entry-from c from zs xs e =
     number j n h = rw h (sym (getD-drop from zs j 0) ∙ (ap (λ (l : List ℕ). getD l j 0) e ∙ getD-drop from xs j 0))
 
 -- a number written over an entry's position
-entry-set : (c from p : ℕ) (zs xs : List ℕ) → from + (c + 2) ≤ length xs → length zs ≡ length xs → drop from zs ≡ drop from xs
+entry-set : (c from p : ℕ) (zs xs : List ℕ) → from + (c + 2) ≤ length xs → length zs ≡ length xs
+    → drop from zs ≡ drop from xs
     → take (from + (c + 2)) (set zs from p) ≡ take from zs ++ (p ∷ entryAt c from xs .kind ∷ entryAt c from xs .vals)
 entry-set c from p zs xs r l e =
     let a : c + 2 ≡ suc (suc c) = omega arith in
     let one : from + 1 ≡ suc from = omega arith in
     let two : from + 2 ≡ suc (suc from) = omega arith in
     let d : drop (suc from) zs ≡ drop (suc from) xs =
-    ap (λ (n : ℕ). drop n zs) (sym one) ∙ (sym (drop-drop 1 from zs) ∙ (ap (drop 1) e ∙ (drop-drop 1 from xs ∙ ap (λ (n : ℕ). drop n xs) one))) in
+    ap (λ (n : ℕ). drop n zs) (sym one)
+    ∙ (sym (drop-drop 1 from zs) ∙ (ap (drop 1) e ∙ (drop-drop 1 from xs ∙ ap (λ (n : ℕ). drop n xs) one))) in
     rw (
       a,
       take-add from (suc (suc c)) (set zs from p),
@@ -70,7 +72,8 @@ entry-set c from p zs xs r l e =
 module _ (c mx : ℕ) (xs : List ℕ) (my : ℕ) (ys : List ℕ) where
   -- the numbers of the moved edits from number i on, and what stands past X
   abbrev ending : ℕ → ℕ → List ℕ
-  ending i from = gather (numbersOf c) (map (moved (layerOf c my ys)) (toCome c mx xs my ys i from)) ++ drop (mx * (c + 2)) xs
+  ending i from =
+      gather (numbersOf c) (map (moved (layerOf c my ys)) (toCome c mx xs my ys i from)) ++ drop (mx * (c + 2)) xs
 
   pub record Renumbering (zs : List ℕ) (i from : ℕ) (k : Cursor) : Type 0 where
     pub walk : Alongside c mx xs my ys i from k
@@ -78,7 +81,8 @@ module _ (c mx : ℕ) (xs : List ℕ) (my : ℕ) (ys : List ℕ) where
     pub stands : from ≡ i * (c + 2)
     pub size : length zs ≡ length xs
     pub untouched : drop from zs ≡ drop from xs
-    pub written : flat c (move (layerOf c mx xs) (layerOf c my ys)) ++ drop (mx * (c + 2)) xs ≡ take from zs ++ ending i from
+    pub written :
+        flat c (move (layerOf c mx xs) (layerOf c my ys)) ++ drop (mx * (c + 2)) xs ≡ take from zs ++ ending i from
 
   pub renumbering-start : Movable c mx xs my ys → Renumbering xs 0 0 outset
   unfolding flat layerOf
@@ -114,7 +118,8 @@ module _ (c mx : ℕ) (xs : List ℕ) (my : ℕ) (ys : List ℕ) where
         position-was = ap (λ (x : Head). x .pos) was
 
         placed : (moved (layerOf c my ys) (editOf (entryAt c from xs))
-            ≡ at ((entryAt c from xs .pos + r .adds) - r .strikes) (deedOf (entryAt c from xs .kind) (entryAt c from xs .vals)))
+            ≡ at ((entryAt c from xs .pos + r .adds) - r .strikes)
+            (deedOf (entryAt c from xs .kind) (entryAt c from xs .vals)))
             × (r .strikes ≤ entryAt c from xs .pos)
         placed = position-here c mx xs my ys (R .walk) h e was moves (M .walks .matched .theirs)
 
@@ -123,16 +128,22 @@ module _ (c mx : ℕ) (xs : List ℕ) (my : ℕ) (ys : List ℕ) where
 
         pub bounds : (e .pos ≤ 4096) × (r .strikes ≤ e .pos)
         bounds = (
-          omega (arith, position-was, M .based (editOf (entryAt c from xs)) (in-layer c mx xs my ys (R .walk) h e was moves)),
+          omega (
+            arith,
+            position-was,
+            M .based (editOf (entryAt c from xs)) (in-layer c mx xs my ys (R .walk) h e was moves),
+          ),
           omega (arith, position-was, placed .1),
         )
 
-        numbers : numbersOf c (moved (layerOf c my ys) (editOf (entryAt c from xs))) ≡ new ∷ entryAt c from xs .kind ∷ entryAt c from xs .vals
+        numbers : numbersOf c (moved (layerOf c my ys) (editOf (entryAt c from xs)))
+            ≡ new ∷ entryAt c from xs .kind ∷ entryAt c from xs .vals
         numbers =
             let d = entryAt c from xs in
             ap (numbersOf c) (placed .0)
             ∙ (entry-numbers c (record { pos = (d .pos + r .adds) - r .strikes; kind = d .kind; vals = d .vals })
-            (vals-length c from xs (omega (arith, R .size, room))) (M .walks .mine .some) (R .zeroed d (rw (raw.rest-step c mx i from xs h) (here refl)))
+            (vals-length c from xs (omega (arith, R .size, room))) (M .walks .mine .some)
+            (R .zeroed d (rw (raw.rest-step c mx i from xs h) (here refl)))
             ∙ ap (λ (n : ℕ). ((n + r .adds) - r .strikes) ∷ d .kind ∷ d .vals) (sym position-was))
 
         pub renumbering-on : Renumbering (set zs from new) (i + 1) (from + (c + 2)) r
@@ -146,6 +157,10 @@ module _ (c mx : ℕ) (xs : List ℕ) (my : ℕ) (ys : List ℕ) where
               ∙ (sym (drop-drop (c + 2) from zs) ∙ (ap (drop (c + 2)) (R .untouched) ∙ drop-drop (c + 2) from xs));
           written =
               R .written
-              ∙ rw (raw.edits-step c mx i from xs h, numbers, entry-set c from new zs xs (omega (arith, R .size, room)) (R .size) (R .untouched))
+              ∙ rw (
+                raw.edits-step c mx i from xs h,
+                numbers,
+                entry-set c from new zs xs (omega (arith, R .size, room)) (R .size) (R .untouched),
+              )
               (simp append-assoc);
         }

@@ -1,14 +1,14 @@
--- What is known of X and Y where refusals 1 to 4 are not met: both fit the keys, so they can be walked along, and X can be moved.
+-- What is known of X and Y past refusals 1 to 4: both fit the keys, can be walked along, and X can be moved.
 -- Assumes nothing.
 use Prim.Native.Nat.{ℕ, _+_, _*_, _≤_}
 use native.Mathlib.Omega.{arith}
 use mathlib.Core.Path.{_≡_, refl, sym, ap, _∙_}
-use mathlib.Core.Bool.{Bool, true, false, not, _&&_}
+use mathlib.Core.Bool.{true, false, _&&_}
 use mathlib.Core.List.{List, [], _∷_, _++_, map}
 use lib.ListN.{length, length-map, length-append}
 use lib.Seq.{length-take-le}
 use lib.Dec.{ltb, leb, eqb}
-use borrow.Author.Tests.{ltb-false, ltb-true, leb-true, eq-eqb}
+use borrow.Author.Tests.{not-false, ltb-false, ltb-true, leb-true, eq-eqb}
 use Rattle.order.specs.Lists.{ascending, count, gather}
 use Rattle.order.proofs.Tests.{and-l, and-r}
 use Rattle.order.proofs.Pairs.{broken-le}
@@ -31,26 +31,25 @@ use Rattle.pass.specs.Walk.{Walkable, Movable}
 use Rattle.pass.specs.Stages.{formTests, fitTests, passTests, Weighed}
 use Rattle.pass.proofs.Stages.{Passed, stage-passed, passed-append, move-stages}
 
-not-not : (t : Bool) → not t ≡ false → t ≡ true
-not-not true h = refl
-not-not false h = sym h
-
 in-form : (c n m : ℕ) (xs : List ℕ) → argsOk c n m (length xs) ≡ true → breaksForm c n m xs ≡ false → InForm c n m xs
 unfolding formAnswer
 in-form c n m xs a b = rw (a, b)
 
 -- stage 1 accepts
-pub forms : (c n mx : ℕ) (x : List ℕ) (my : ℕ) (y : List ℕ) → Passed (formTests c n mx x my y) → InForm c n mx x × InForm c n my y
+pub forms : (c n mx : ℕ) (x : List ℕ) (my : ℕ) (y : List ℕ) → Passed (formTests c n mx x my y)
+    → InForm c n mx x × InForm c n my y
 unfolding formTests
 forms c n mx x my y p =
-    let ok = not-not (argsOk c n mx (length x) && argsOk c n my (length y)) (p .0) in (
+    let ok = not-false (argsOk c n mx (length x) && argsOk c n my (length y)) (p .0) in (
       in-form c n mx x (and-l (argsOk c n mx (length x)) (argsOk c n my (length y)) ok) (p .1 .0),
       in-form c n my y (and-r (argsOk c n mx (length x)) (argsOk c n my (length y)) ok) (p .1 .1 .0),
     )
 
 fits-all : (K : List ℕ) (L : Layer) → ltb (fitPlace K L) (length L) ≡ false → fits K L ≡ true
 unfolding fits fitPlace
-fits-all K L h = eq-eqb (fitPlace K L) (length L) (omega (arith, ltb-false (fitPlace K L) (length L) h, broken-le (suits K L) rises [] L))
+fits-all K L h =
+    eq-eqb (fitPlace K L) (length L)
+    (omega (arith, ltb-false (fitPlace K L) (length L) h, broken-le (suits K L) rises [] L))
 
 -- X and Y both fit the keys
 pub record Sides (c : ℕ) (K : List ℕ) (mx : ℕ) (x : List ℕ) (my : ℕ) (y : List ℕ) : Type 0 where
@@ -58,18 +57,19 @@ pub record Sides (c : ℕ) (K : List ℕ) (mx : ℕ) (x : List ℕ) (my : ℕ) (
   pub theirs : Fitted c my y K
 
 -- stages 1 and 2 accept
-pub sides : (c : ℕ) (K : List ℕ) (mx : ℕ) (x : List ℕ) (my : ℕ) (y : List ℕ) → InForm c (length K) mx x → InForm c (length K) my y
+pub sides : (c : ℕ) (K : List ℕ) (mx : ℕ) (x : List ℕ) (my : ℕ) (y : List ℕ) → InForm c (length K) mx x
+    → InForm c (length K) my y
     → Passed (fitTests K (layerOf c mx x) (layerOf c my y)) → Sides c K mx x my y
 unfolding fitTests
 sides c K mx x my y f g p = record {
   mine = record {
     form = accepted c (length K) mx x (rowsAfter (length K) (layerOf c mx x)) f;
-    rising = not-not (ascending K) (p .0);
+    rising = not-false (ascending K) (p .0);
     fit = fits-all K (layerOf c mx x) (p .1 .0);
   };
   theirs = record {
     form = accepted c (length K) my y (rowsAfter (length K) (layerOf c my y)) g;
-    rising = not-not (ascending K) (p .0);
+    rising = not-false (ascending K) (p .0);
     fit = fits-all K (layerOf c my y) (p .1 .1 .0);
   };
 }
@@ -101,7 +101,8 @@ module _ (c : ℕ) (K : List ℕ) (mx : ℕ) (x : List ℕ) (my : ℕ) (y : List
         matched = record {
           mine = FX .sorted;
           theirs = FY .sorted;
-          level = λ p s q r m n e. sym (FX .sits p q m) ∙ (ap (λ (k : ℕ). count (below key k) (alone K)) e ∙ FY .sits s r n);
+          level = λ p s q r m n e.
+              sym (FX .sits p q m) ∙ (ap (λ (k : ℕ). count (below key k) (alone K)) e ∙ FY .sits s r n);
         };
       }
 

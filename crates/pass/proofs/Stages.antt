@@ -1,4 +1,4 @@
--- The stages of refusal: a stage that refuses answers for the whole call, one that accepts hands on to the next; and what acceptance of each gives.
+-- The stages of refusal: one that refuses answers for the whole call, one that accepts hands on to the next.
 -- Assumes nothing.
 use Prim.Native.Nat.{ℕ, suc, _+_, _≤_, _<_}
 use native.Mathlib.Nat.{zero-add}
@@ -91,7 +91,11 @@ passed-append (refuse n q t ∷ ts) us p = let w = passed-append ts us (p .1) in
 form-place-le : (c n m : ℕ) (xs : List ℕ) → formPlace c n (entriesOf c m xs) ≤ m
 unfolding formPlace
 form-place-le c n m xs =
-    omega (arith, entries-length c m 0 xs, broken-le (λ e. zeros e && sound c n (editOf e)) (λ d e. follows (editOf d) (editOf e)) [] (entriesOf c m xs))
+    omega (
+      arith,
+      entries-length c m 0 xs,
+      broken-le (λ e. zeros e && sound c n (editOf e)) (λ d e. follows (editOf d) (editOf e)) [] (entriesOf c m xs),
+    )
 
 placed : (t : Bool) (p k : ℕ) (r : Refusal) → cond t (Refused (refusal 2 p)) (Done k) ≡ Refused r → r .place ≡ p
 placed true p k r h = cc
@@ -102,7 +106,8 @@ module _ (c n mx : ℕ) (x : List ℕ) (my : ℕ) (y : List ℕ) where
   abbrev result : Answer
   result = Done (rowsAfter n (layerOf c mx x) + rowsAfter n (layerOf c my y))
 
-  pub args-refused : (argsOk c n mx (length x) && argsOk c n my (length y)) ≡ false → Refused (refusal 1 0) ≡ firstMet Refused (formTests c n mx x my y) result
+  pub args-refused : (argsOk c n mx (length x) && argsOk c n my (length y)) ≡ false
+      → Refused (refusal 1 0) ≡ firstMet Refused (formTests c n mx x my y) result
   unfolding formTests
   args-refused h = rw h
 
@@ -114,13 +119,16 @@ module _ (c n mx : ℕ) (x : List ℕ) (my : ℕ) (y : List ℕ) where
     ok-theirs = and-r (argsOk c n mx (length x)) (argsOk c n my (length y)) ok
 
     form-rows : firstMet Refused (formTests c n mx x my y) result
-        ≡ onward (λ r. Refused (raised 0 r)) (formAnswer c n mx x) (onward (λ r. Refused (raised 1000 r)) (formAnswer c n my y) result)
+        ≡ onward (λ r. Refused (raised 0 r)) (formAnswer c n mx x)
+        (onward (λ r. Refused (raised 1000 r)) (formAnswer c n my y) result)
     unfolding formTests
     form-rows =
         rw ok (form-row Refused 0 c n mx x (badForm 1000 c n my y ∷ []) result ok-mine
-        ∙ ap (onward (λ r. Refused (raised 0 r)) (formAnswer c n mx x)) (form-row Refused 1000 c n my y [] result ok-theirs))
+        ∙ ap (onward (λ r. Refused (raised 0 r)) (formAnswer c n mx x))
+        (form-row Refused 1000 c n my y [] result ok-theirs))
 
-    pub mine-refused : (r : Refusal) → formAnswer c n mx x ≡ Refused r → Refused r ≡ firstMet Refused (formTests c n mx x my y) result
+    pub mine-refused : (r : Refusal) → formAnswer c n mx x ≡ Refused r
+        → Refused r ≡ firstMet Refused (formTests c n mx x my y) result
     mine-refused r h = sym (form-rows ∙ rw (h, zero-add))
 
     module _ (k : ℕ) (f : formAnswer c n mx x ≡ Done k) where
@@ -133,7 +141,8 @@ module _ (c n mx : ℕ) (x : List ℕ) (my : ℕ) (y : List ℕ) where
       theirs-place r h =
           omega (
             arith,
-            placed (breaksForm c n my y) (0 + formPlace c n (entriesOf c my y)) (rowsAfter n (layerOf c my y)) r (rw ok-theirs at h),
+            placed (breaksForm c n my y) (0 + formPlace c n (entriesOf c my y)) (rowsAfter n (layerOf c my y)) r
+                (rw ok-theirs at h),
             form-place-le c n my y,
             args-held c n my y ok-theirs .0 .entries,
           )
@@ -172,9 +181,13 @@ any-first : {A : Type 0} (f : A → Bool) (xs : List A) → any f xs ≡ ltb (fi
 any-first f [] = refl
 any-first f (x ∷ xs) = go (f x) (any-first f xs)
   where
-    go : (t : Bool) → any f xs ≡ ltb (firstAt f xs) (length xs) → (t || any f xs) ≡ ltb (cond t 0 (suc (firstAt f xs))) (suc (length xs))
+    go : (t : Bool) → any f xs ≡ ltb (firstAt f xs) (length xs)
+        → (t || any f xs) ≡ ltb (cond t 0 (suc (firstAt f xs))) (suc (length xs))
     go true ih = sym (lt-ltb 0 (suc (length xs)) (omega arith))
-    go false ih = ih ∙ same-test (ltb (firstAt f xs) (length xs)) (ltb (suc (firstAt f xs)) (suc (length xs))) (λ e. omega tests) (λ e. omega tests)
+    go false ih =
+        ih
+        ∙ same-test (ltb (firstAt f xs) (length xs)) (ltb (suc (firstAt f xs)) (suc (length xs))) (λ e. omega tests)
+        (λ e. omega tests)
 
 pub conflict-place : (X Y : Layer) → conflict X Y ≡ ltb (conflictPlace X Y) (length X)
 unfolding conflict conflictPlace

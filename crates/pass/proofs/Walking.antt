@@ -1,4 +1,4 @@
--- The walk along two layers: what a cursor that only moves on has passed is all that stands before, and a conflict is met right ahead.
+-- The walk along two layers: what a cursor has passed is all that stands before, and a conflict is met right ahead.
 -- Assumes nothing.
 use mathlib.Core.Path.{_≡_, refl, sym, ap, _∙_}
 use mathlib.Core.Logic.{⊎-elim}
@@ -31,16 +31,19 @@ module _ {A : Type 0} (f g : A → Bool) (more : (x : A) → f x ≡ true → g 
   ahead-more [] = refl
   ahead-more (x ∷ xs) = go (f x) refl (ahead-more xs)
     where
-      go : (t : Bool) → f x ≡ t → ahead g xs ≡ ahead g (ahead f xs) → ahead g (x ∷ xs) ≡ ahead g (cond t (ahead f xs) (x ∷ xs))
+      go : (t : Bool) → f x ≡ t → ahead g xs ≡ ahead g (ahead f xs)
+          → ahead g (x ∷ xs) ≡ ahead g (cond t (ahead f xs) (x ∷ xs))
       go true e ih = rw (more x e) ih
       go false e ih = refl
 
-  pub passed-more : (q : A → Bool) (xs : List A) → count q (passed g xs) ≡ count q (passed f xs) + count q (passed g (ahead f xs))
+  pub passed-more : (q : A → Bool) (xs : List A)
+      → count q (passed g xs) ≡ count q (passed f xs) + count q (passed g (ahead f xs))
   passed-more q [] = refl
   passed-more q (x ∷ xs) = go (f x) refl (passed-more q xs)
     where
       go : (t : Bool) → f x ≡ t → count q (passed g xs) ≡ count q (passed f xs) + count q (passed g (ahead f xs))
-          → count q (passed g (x ∷ xs)) ≡ count q (cond t (x ∷ passed f xs) []) + count q (passed g (cond t (ahead f xs) (x ∷ xs)))
+          → count q (passed g (x ∷ xs))
+          ≡ count q (cond t (x ∷ passed f xs) []) + count q (passed g (cond t (ahead f xs) (x ∷ xs)))
       go true e ih = rw (more x e) (omega arith)
       go false e ih = omega arith
 
@@ -60,7 +63,11 @@ module _ (e : Edit) where
       go true h ih = rw (and-true (q d)) (omega arith)
       go false h ih =
           rw (and-false (q d))
-          (omega (arith, count-zero (λ y. q y && before y e) L (λ y m. rw (none-later d L (o .0) h y m) (ap one (and-false (q y))))))
+          (omega (
+            arith,
+            count-zero (λ y. q y && before y e) L
+                (λ y m. rw (none-later d L (o .0) h y m) (ap one (and-false (q y)))),
+          ))
 
 -- which tells the new position
 module _ (L : Layer) (o : AllPairs before L) where
@@ -81,7 +88,8 @@ module _ (L : Layer) (o : AllPairs before L) where
   few-strikes s d =
       omega (arith, strikes-gone s d, strikes-few s L (pairs-weaker before follows L (λ x y m n h. before-follows x y h) o))
 
-  adds-gone : (s : ℕ) (r : Row) → count (addBefore s) L + count (addHereBelow s (key r)) L ≡ count isAdd (gone (at s (add r)))
+  adds-gone : (s : ℕ) (r : Row)
+      → count (addBefore s) L + count (addHereBelow s (key r)) L ≡ count isAdd (gone (at s (add r)))
   adds-gone s r =
       count-sum (addBefore s) (addHereBelow s (key r)) (λ y. isAdd y && before y (at s (add r))) L each
       ∙ sym (passed-all (at s (add r)) isAdd L o)
@@ -92,13 +100,15 @@ module _ (L : Layer) (o : AllPairs before L) where
       case p u false true e f = rw (eqb-sym s p, f) (omega arith)
       case p u false false e f = rw (eqb-sym s p, f)
 
-      each : (y : Edit) → Mem y L → one (addBefore s y) + one (addHereBelow s (key r) y) ≡ one (isAdd y && before y (at s (add r)))
+      each : (y : Edit) → Mem y L
+          → one (addBefore s y) + one (addHereBelow s (key r) y) ≡ one (isAdd y && before y (at s (add r)))
       each (at p (add q)) m = case p (ltb (key q) (key r)) (ltb p s) (eqb p s) refl refl
       each (at p (strike k)) m = refl
       each (at p (change j f)) m = refl
 
   -- before a strike or a change stand the adds up to and including its position
-  row-gone : (s : ℕ) (d : Deed) → ((q : Row) → deedBefore (add q) d ≡ true) → count isAdd (gone (at s d)) ≡ count (addUpTo s) L
+  row-gone : (s : ℕ) (d : Deed) → ((q : Row) → deedBefore (add q) d ≡ true)
+      → count isAdd (gone (at s d)) ≡ count (addUpTo s) L
   row-gone s d h = passed-all (at s d) isAdd L o ∙ count-same (λ y. isAdd y && before y (at s d)) (addUpTo s) L each
     where
       case : (p : ℕ) (a b : Bool) → ltb p s ≡ a → eqb p s ≡ b → one (a || (b && true)) ≡ one (leb p s)
@@ -111,7 +121,8 @@ module _ (L : Layer) (o : AllPairs before L) where
       each (at p (strike k)) m = refl
       each (at p (change j f)) m = refl
 
-  pub new-position : (s : ℕ) (d : Deed) → moved L (at s d) ≡ at ((s + count isAdd (gone (at s d))) - count isStrike (gone (at s d))) d
+  pub new-position : (s : ℕ) (d : Deed)
+      → moved L (at s d) ≡ at ((s + count isAdd (gone (at s d))) - count isStrike (gone (at s d))) d
   unfolding addPosition rowOf
   new-position s (add r) =
       ap (λ (p : ℕ). at p (add r)) (omega (arith, adds-gone s r, strikes-gone s (add r)))
@@ -126,7 +137,8 @@ met-test true r h = refl
 met-test false r h = h
 
 -- two edits at one position, before which the same deeds stand
-same-before : (t p s : ℕ) (d y e : Deed) → p ≡ s → deedBefore d y ≡ deedBefore d e → before (at t d) (at p y) ≡ before (at t d) (at s e)
+same-before : (t p s : ℕ) (d y e : Deed) → p ≡ s → deedBefore d y ≡ deedBefore d e
+    → before (at t d) (at p y) ≡ before (at t d) (at s e)
 same-before t p s d y e ps h = rw (ps, h)
 
 -- a conflict is met with the first edit ahead, or with none
@@ -157,10 +169,12 @@ module _ (X Y : Layer) (M : Matched X Y) where
       ⊎-elim (λ l. omega arith) (λ w. omega (arith, ltb-true j i (w .1))) (before-cases p s (change j g) (change i f) h)
 
   -- where a later edit meets a rule, the first that does not stand before e meets one
-  first-meets : (e d y : Edit) → Mem e X → Mem y Y → before d y ≡ true → before d e ≡ false → met (clash e y) ≡ true → met (clash e d) ≡ true
+  first-meets : (e d y : Edit) → Mem e X → Mem y Y → before d y ≡ true → before d e ≡ false → met (clash e y) ≡ true
+      → met (clash e d) ≡ true
   first-meets (at s (add r)) (at p d) (at z (add q)) m n h g t =
       let k : key r ≡ key q = eqb-true (key r) (key q) (met-test (eqb (key r) (key q)) sameKey t) in
-      absurd (true≢false (sym h ∙ (same-before p z s d (add q) (add r) (sym (M .level s z r q m n k)) (level d (sym k)) ∙ g)))
+      let z-s = sym (M .level s z r q m n k) in
+      absurd (true≢false (sym h ∙ (same-before p z s d (add q) (add r) z-s (level d (sym k)) ∙ g)))
     where
       level : (d : Deed) → key q ≡ key r → deedBefore d (add q) ≡ deedBefore d (add r)
       level (add x) k = rw k
@@ -216,12 +230,16 @@ module _ (X Y : Layer) (M : Matched X Y) where
       go : (t : Bool) → before d e ≡ t → clashesWith L e ≡ met (ruleAhead e (ahead (λ y. before y e) L))
           → (met (clash e d) || clashesWith L e) ≡ met (ruleAhead e (cond t (ahead (λ y. before y e) L) (d ∷ L)))
       go true h ih = rw (not-passed (met (clash e d)) (before-none e d m (inY d (here refl)) h)) ih
-      go false h ih = same-test (met (clash e d) || clashesWith L e) (met (clash e d)) (λ u. one-of u) (λ u. or-l (met (clash e d)) (clashesWith L e) u)
+      go false h ih =
+          same-test (met (clash e d) || clashesWith L e) (met (clash e d)) one-of
+          (λ u. or-l (met (clash e d)) (clashesWith L e) u)
         where
           one-of : (met (clash e d) || clashesWith L e) ≡ true → met (clash e d) ≡ true
           one-of u =
               ⊎-elim (λ v. v)
-              (λ v. let w = any-mem (λ y. met (clash e y)) L v in first-meets e d (w .0) m (inY (w .0) (next (w .1))) (o .0 (w .0) (w .1)) h (w .2))
+              (λ v.
+              let w = any-mem (λ y. met (clash e y)) L v in
+              first-meets e d (w .0) m (inY (w .0) (next (w .1))) (o .0 (w .0) (w .1)) h (w .2))
               (or-cases (met (clash e d)) (clashesWith L e) u)
 
   pub conflict-ahead : (e : Edit) → Mem e X → clashesWith Y e ≡ met (ruleAhead e (ahead (λ d. before d e) Y))

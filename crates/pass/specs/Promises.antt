@@ -35,7 +35,7 @@ pub record Lowest (X Y : Layer) (p : ℕ) : Type 0 where
   pub clashes : clashesWith Y (getD X p (at 0 (strike 0))) ≡ true
   pub least : (i : ℕ) → i < p → clashesWith Y (getD X i (at 0 (strike 0))) ≡ false
 
--- X's slice after the move holds X moved past Y, which keeps form and fits what is read through Y, and reads there as X redone by key
+-- X's slice holds X moved past Y, which keeps form and fits what is read through Y, and reads there as X redone by key
 pub record MovedPast (c : ℕ) (T : Table) (X Y : Layer) (mx : ℕ) (x′ : List ℕ) : Type 0 where
   pub holds : layerOf c mx x′ ≡ move X Y
   pub formed : keepsForm c (length (read T Y)) (layerOf c mx x′) ≡ true
@@ -48,23 +48,22 @@ pub record BothOrders (c : ℕ) (T : Table) (mx : ℕ) (x x′ : List ℕ) (my :
   pub theirs : MovedPast c T (layerOf c my y) (layerOf c mx x) my y′
   pub alike : read (read T (layerOf c my y)) (layerOf c mx x′) ≡ read (read T (layerOf c mx x)) (layerOf c my y′)
 
--- X moved past Y in the base of the examples: accepted, to these positions, and it reads as this table; or refused, and the slice is as it was
+-- X past Y in the base of the examples: accepted, to these positions, and it reads as this table
 abbrev pub MovesTo : Layer → Layer → List ℕ → Table → Type 0
 MovesTo X Y ps T = (r : Answer) (x′ : List ℕ) → Outcome 2 (keys four) (length X) (flat 2 X) (length Y) (flat 2 Y) r x′
-    → (r ≡ Done (length X)) × (map position (layerOf 2 (length X) x′) ≡ ps) × (read (read four Y) (layerOf 2 (length X) x′) ≡ T)
+    → (r ≡ Done (length X)) × (map position (layerOf 2 (length X) x′) ≡ ps)
+    × (read (read four Y) (layerOf 2 (length X) x′) ≡ T)
 
+-- or refused at this place, and the slice is as it was
 abbrev pub StaysAt : Layer → Layer → ℕ → Type 0
 StaysAt X Y place = (r : Answer) (x′ : List ℕ) → Outcome 2 (keys four) (length X) (flat 2 X) (length Y) (flat 2 Y) r x′
     → (r ≡ Refused (refusal 8 place)) × (x′ ≡ flat 2 X)
 
--- what a line of the table of examples says of the call
-abbrev pub OfCall : Example → Type 0
-OfCall (edits steps L T) = Unit {0}
-OfCall (shifts L ss zs) = Unit {0}
-OfCall (passes X Y ps qs T) = MovesTo X Y ps T × MovesTo Y X qs T
-OfCall (refuses X Y place) = StaysAt X Y place
-OfCall (combines R W L) = Unit {0}
-
+-- what the lines of a table of examples say of the call; E7 to E11 are lines of the last two kinds
 abbrev pub EachOfCall : List Example → Type 0
 EachOfCall [] = Unit {0}
-EachOfCall (e ∷ es) = OfCall e × EachOfCall es
+EachOfCall (edits steps L T ∷ es) = EachOfCall es
+EachOfCall (shifts L ss zs ∷ es) = EachOfCall es
+EachOfCall (combines R W L ∷ es) = EachOfCall es
+EachOfCall (passes X Y ps qs T ∷ es) = (MovesTo X Y ps T × MovesTo Y X qs T) × EachOfCall es
+EachOfCall (refuses X Y place ∷ es) = StaysAt X Y place × EachOfCall es

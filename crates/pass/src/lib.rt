@@ -42,7 +42,8 @@ fn both_formed(c: usize, n: usize, mx: usize, x: &[u64], my: usize, y: &[u64]) -
 // Refusals 3 and 4.
 fn both_fit(c: usize, keys: &[u64], mx: usize, x: &[u64], my: usize, y: &[u64]) -> Answer
     requires { ⌜ InForm c (length (now keys)) mx (now x) × InForm c (length (now keys)) my (now y) ⌝ }
-    ensures { λ r. ⌜ r ≡ firstMet Refused (fitTests (now (keys .entry)) (layerOf c mx (now (x .entry))) (layerOf c my (now (y .entry)))) (Done 0) ⌝ }
+    ensures { λ r. ⌜ r ≡ firstMet Refused
+        (fitTests (now (keys .entry)) (layerOf c mx (now (x .entry))) (layerOf c my (now (y .entry)))) (Done 0) ⌝ }
 {
     if !form::keys_ascend(keys) {
         return Answer::Refused(Refusal {
@@ -70,7 +71,8 @@ fn both_fit(c: usize, keys: &[u64], mx: usize, x: &[u64], my: usize, y: &[u64]) 
 // Refusals 8 and 10, where `rows` is the rows after X and the rows after Y, together.
 fn free(c: usize, n: usize, rows: usize, mx: usize, x: &[u64], my: usize, y: &[u64]) -> Answer
     requires { ⌜ Weighed c n rows mx (now x) my (now y) ⌝ }
-    ensures { λ r. ⌜ r ≡ firstMet Refused (passTests n (layerOf c mx (now (x .entry))) (layerOf c my (now (y .entry)))) (Done mx) ⌝ }
+    ensures { λ r. ⌜ r ≡ firstMet Refused
+        (passTests n (layerOf c mx (now (x .entry))) (layerOf c my (now (y .entry)))) (Done mx) ⌝ }
 {
     let place = walk::first_clash(c, mx, x, my, y);
     if place < mx {

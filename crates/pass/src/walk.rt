@@ -1,4 +1,4 @@
-// One walk along two layers: a cursor in Y that only moves on, past the entries that stand before the one of X that is looked at.
+// One walk along two layers: a cursor in Y only moves on, past what stands before the entry of X that is looked at.
 use crate::head::Head;
 use model::Entry;
 ghost use mathlib.Core.Path.{_≡_};
@@ -123,7 +123,8 @@ pub fn first_clash(c: usize, mx: usize, x: &[u64], my: usize, y: &[u64]) -> usiz
 pub fn renumber(c: usize, mx: usize, x: &mut [u64], my: usize, y: &[u64])
     requires { ⌜ Movable c mx (now x) my (now y) ⌝ }
     ensures { λ _. ⌜ now (x .exit)
-        ≡ flat c (move (layerOf c mx (now (x .entry))) (layerOf c my (now (y .entry)))) ++ drop (mx * (c + 2)) (now (x .entry)) ⌝ }
+        ≡ flat c (move (layerOf c mx (now (x .entry))) (layerOf c my (now (y .entry))))
+        ++ drop (mx * (c + 2)) (now (x .entry)) ⌝ }
 {
     let mut i: usize = 0;
     let mut at: usize = 0;

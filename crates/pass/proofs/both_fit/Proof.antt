@@ -38,12 +38,14 @@ add-t13 c =
 returns-3 : tie.Need-returns-3
 returns-3 c =
     let e = c .before .before in
-    theirs-misfits _ _ _ _ _ _ (rising (e .before .before)) _ (e .before .fit-place .ensures) (e .if2 .left) _ (c .before .fit-place2 .ensures) (c .if3 .taken)
+    theirs-misfits _ _ _ _ _ _ (rising (e .before .before)) _ (e .before .fit-place .ensures) (e .if2 .left) _
+    (c .before .fit-place2 .ensures) (c .if3 .taken)
 
 returns-4 : tie.Need-returns-4
 returns-4 c =
     let e = c .before .before in
-    both-suit _ _ _ _ _ _ (rising (e .before .before)) _ (e .before .fit-place .ensures) (e .if2 .left) _ (c .before .fit-place2 .ensures) (c .if3 .left)
+    both-suit _ _ _ _ _ _ (rising (e .before .before)) _ (e .before .fit-place .ensures) (e .if2 .left) _
+    (c .before .fit-place2 .ensures) (c .if3 .left)
 
 pub both-fit-spec : {M : Type 1} → statement M
 both-fit-spec =

@@ -17,7 +17,8 @@ use Rattle.pass.proofs.both_formed.Tie as tie
 -- the two tests of the arguments are one
 tests : (c : tie.After-args-ok2) →
     let a = c .before .before .before .before .args in
-    (c .before .args-ok .result && c .args-ok2 .result) ≡ (argsOk (a .c) (a .n) (a .mx) (length (a .x .now)) && argsOk (a .c) (a .n) (a .my) (length (a .y .now)))
+    (c .before .args-ok .result && c .args-ok2 .result)
+    ≡ (argsOk (a .c) (a .n) (a .mx) (length (a .x .now)) && argsOk (a .c) (a .n) (a .my) (length (a .y .now)))
 tests c = rw (c .before .args-ok .ensures, c .args-ok2 .ensures)
 
 ok : (c : tie.Else1) →
@@ -59,7 +60,11 @@ add-t22 : tie.Need-add-t22
 add-t22 c =
     let v = c .before .before .before .before in
     let r = c .before .before .r2 .given in
-    omega (arith, theirs-place _ _ _ _ _ _ (ok (v .before .before .before .before .before)) _ (mine (v .before)) (r .0 .0) (sym (v .check2 .ensures) ∙ r .1))
+    omega (
+      arith,
+      theirs-place _ _ _ _ _ _ (ok (v .before .before .before .before .before)) _ (mine (v .before)) (r .0 .0)
+          (sym (v .check2 .ensures) ∙ r .1),
+    )
 
 enum-known-theirs : tie.Need-enum-known-theirs
 enum-known-theirs c = search needs
@@ -73,19 +78,22 @@ add-t24 c =
 returns-2 : tie.Need-returns-2
 returns-2 c =
     let r = c .before .r .given in
-    mine-refused _ _ _ _ _ _ (ok (c .before .before .before .before)) (r .0 .0) (sym (c .before .before .before .check .ensures) ∙ r .1)
+    mine-refused _ _ _ _ _ _ (ok (c .before .before .before .before)) (r .0 .0)
+    (sym (c .before .before .before .check .ensures) ∙ r .1)
 
 returns-3 : tie.Need-returns-3
 returns-3 c =
     let v = c .before .before .before .before in
     let r = c .before .before .r2 .given in
-    theirs-refused _ _ _ _ _ _ (ok (v .before .before .before .before .before)) _ (mine (v .before)) (r .0 .0) (sym (v .check2 .ensures) ∙ r .1)
+    theirs-refused _ _ _ _ _ _ (ok (v .before .before .before .before .before)) _ (mine (v .before)) (r .0 .0)
+    (sym (v .check2 .ensures) ∙ r .1)
 
 returns-4 : tie.Need-returns-4
 returns-4 c =
     let v = c .before .before .before in
     let r = c .before .theirs .given in
-    formed _ _ _ _ _ _ (ok (v .before .before .before .before .before)) _ (mine (v .before)) (r .0 .0) (sym (v .check2 .ensures) ∙ r .1)
+    formed _ _ _ _ _ _ (ok (v .before .before .before .before .before)) _ (mine (v .before)) (r .0 .0)
+    (sym (v .check2 .ensures) ∙ r .1)
 
 pub both-formed-spec : {M : Type 1} → statement M
 both-formed-spec =

@@ -9,7 +9,9 @@ first-clash-requires : tie.Need-first-clash-requires
 first-clash-requires c κs = search needs
 
 returns : tie.Need-returns
-returns c = clash-refused _ _ _ _ _ _ _ (c .before .before .before .before .pre) _ (c .before .first-clash .ensures) (c .if1 .taken)
+returns c =
+    let f = c .before in
+    clash-refused _ _ _ _ _ _ _ (f .before .before .before .pre) _ (f .first-clash .ensures) (c .if1 .taken)
 
 add-if2 : tie.Need-add-if2
 add-if2 c = search needs
@@ -17,7 +19,8 @@ add-if2 c = search needs
 returns-2 : tie.Need-returns-2
 returns-2 c =
     let f = c .before .before in
-    rows-refused _ _ _ _ _ _ _ (f .before .before .before .pre) _ (f .first-clash .ensures) (c .before .if1 .left) (c .if2 .taken)
+    rows-refused _ _ _ _ _ _ _ (f .before .before .before .pre) _ (f .first-clash .ensures) (c .before .if1 .left)
+    (c .if2 .taken)
 
 returns-3 : tie.Need-returns-3
 returns-3 c =

@@ -24,7 +24,9 @@ use Rattle.pass.proofs.tested.Tie as tie
 -- the rows after X and the rows after Y, together
 total : (c : tie.Start) → ℕ
 total c =
-    let a = c .args in rowsAfter (length (a .keys .now)) (layerOf (a .c) (a .mx) (a .x .now)) + rowsAfter (length (a .keys .now)) (layerOf (a .c) (a .my) (a .y .now))
+    let a = c .args in
+    let n = length (a .keys .now) in
+    rowsAfter n (layerOf (a .c) (a .mx) (a .x .now)) + rowsAfter n (layerOf (a .c) (a .my) (a .y .now))
 
 -- stage 1 accepts
 formed : (c : tie.After-known-told2) →
@@ -41,7 +43,8 @@ both c =
     let s = c .before .before .before .before .before .before .before in
     let a = s .args in
     forms (a .c) (length (a .keys .now)) (a .mx) (a .x .now) (a .my) (a .y .now)
-    (stage-passed (formTests (a .c) (length (a .keys .now)) (a .mx) (a .x .now) (a .my) (a .y .now)) (total s) (c .before .rows .given .0 .0) (formed c) .0)
+    (stage-passed (formTests (a .c) (length (a .keys .now)) (a .mx) (a .x .now) (a .my) (a .y .now)) (total s)
+    (c .before .rows .given .0 .0) (formed c) .0)
 
 -- stage 2 accepts
 fitted : (c : tie.After-enum-told) →
@@ -80,7 +83,8 @@ free-requires c κs =
     (sides (a .c) (a .keys .now) (a .mx) (a .x .now) (a .my) (a .y .now) (f .0) (f .1)
     (stage-passed (fitTests (a .keys .now) X Y) 0 (c .enum-told .given .0 .0) (fitted c) .0))
     (t .before .rows .given .0 .0)
-    (sym (stage-passed (formTests (a .c) (length (a .keys .now)) (a .mx) (a .x .now) (a .my) (a .y .now)) (total s) (t .before .rows .given .0 .0) (formed t) .1))
+    (sym (stage-passed (formTests (a .c) (length (a .keys .now)) (a .mx) (a .x .now) (a .my) (a .y .now)) (total s)
+    (t .before .rows .given .0 .0) (formed t) .1))
 
 returns : tie.Need-returns
 returns c =

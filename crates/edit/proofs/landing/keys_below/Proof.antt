@@ -1,14 +1,11 @@
 -- Counting the keys below k: those counted, and those from number i on, are all of them.
 -- Assumes nothing.
 use borrow.Author.Needs.{needs}
-use borrow.Author.Tests.{lt-ltb, le-ltb}
-use native.Mathlib.Nat.{zero-add}
 use native.Mathlib.Omega.{arith}
-use mathlib.Core.Path.{_≡_, refl, sym, ap, _∙_}
+use mathlib.Core.Path.{_≡_}
 use mathlib.Core.Logic.{⊎-elim}
-use Prim.Native.Nat.{ℕ, _+_, _-_, _≤_}
+use Prim.Native.Nat.{_+_, _-_, _≤_}
 use lib.ListN.{length, getD, drop}
-use Rattle.order.specs.Lists.{one}
 use Rattle.model.specs.Fit.{keysBelow}
 use Rattle.order.proofs.Tests.{one-lt, one-ge}
 use Rattle.edit.proofs.Landed.{below-step, below-end}
@@ -16,7 +13,8 @@ use Rattle.edit.proofs.landing.keys_below.Statement.{statement}
 use Rattle.edit.proofs.landing.keys_below.Tie as tie
 
 abbrev Inv-loop : tie.InvT-loop
-Inv-loop k keys n₀ i₀ i-end n i = (i ≤ length keys) × (n ≤ i) × (i-end ≡ length keys) × (keysBelow k keys ≡ n + keysBelow k (drop i keys))
+Inv-loop k keys n₀ i₀ i-end n i = (i ≤ length keys) × (n ≤ i) × (i-end ≡ length keys)
+    × (keysBelow k keys ≡ n + keysBelow k (drop i keys))
 
 abbrev μ-loop : tie.MeasureT-loop
 μ-loop k keys n₀ i₀ i-end n i = length keys - i
@@ -46,7 +44,8 @@ loop-again c =
     let i = l .loop .i in
     let v = getD (a .keys .now) i 0 in
     let b = below-step (a .k) (a .keys .now) i (omega arith) in
-    ⊎-elim (λ w. omega (arith, b, one-lt v (a .k) (w .0 .taken))) (λ w. omega (arith, b, one-ge v (a .k) (w .0 .left))) (c .if1 .came)
+    ⊎-elim (λ w. omega (arith, b, one-lt v (a .k) (w .0 .taken)))
+    (λ w. omega (arith, b, one-ge v (a .k) (w .0 .left))) (c .if1 .came)
 
 returns : tie.Need-returns Inv-loop μ-loop
 returns c =

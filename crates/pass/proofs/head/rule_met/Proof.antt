@@ -1,45 +1,59 @@
 -- `pass::head::rule_met` meets its contract: the tests are those of conflict, by kind.
 -- Assumes nothing.
-use borrow.Author.Tests.{eq-eqb, ne-eqb}
-use Rattle.pass.proofs.Heads.{rule-by}
+use Rattle.pass.proofs.Heads.{one-key, two-keys, one-adds, two-rows, row-struck, one-cell, two-cells}
 use Rattle.pass.proofs.head.rule_met.Statement.{statement}
 use Rattle.pass.proofs.head.rule_met.Tie as tie
 
 returns : tie.Need-returns
-returns c = rw rule-by (simp (c .before .before .before .if1 .taken, eq-eqb _ _ (c .if2 .taken)))
+returns c =
+    let t = c .before .before .before in
+    let a = t .before .before .before .args in
+    one-key (a .mine) (a .theirs) (t .if1 .taken) (c .if2 .taken)
 
 returns-2 : tie.Need-returns-2
-returns-2 c = rw rule-by (simp (c .before .before .before .if1 .taken, ne-eqb _ _ (c .if2 .left)))
+returns-2 c =
+    let t = c .before .before .before in
+    let a = t .before .before .before .args in
+    two-keys (a .mine) (a .theirs) (t .if1 .taken) (c .if2 .left)
 
 returns-3 : tie.Need-returns-3
-returns-3 c = rw rule-by (simp (c .before .before .before .if1 .left, c .if3 .taken))
+returns-3 c =
+    let s = c .before .before .before in
+    let a = s .before .before .before .args in
+    one-adds (a .mine) (a .theirs) (s .if1 .left) (c .if3 .taken)
 
 returns-4 : tie.Need-returns-4
 returns-4 c =
     let n = c .before .before .before in
-    rw rule-by (simp (n .before .before .before .if1 .left, n .if3 .left, ne-eqb _ _ (c .if4 .taken)))
+    let s = n .before .before .before in
+    let a = s .before .before .before .args in
+    two-rows (a .mine) (a .theirs) (s .if1 .left) (n .if3 .left) (c .if4 .taken)
 
 returns-5 : tie.Need-returns-5
 returns-5 c =
     let p = c .before .before .before in
     let n = p .before .before .before in
-    rw rule-by (simp (n .before .before .before .if1 .left, n .if3 .left, eq-eqb _ _ (p .if4 .left), c .if5 .taken))
+    let s = n .before .before .before in
+    let a = s .before .before .before .args in
+    row-struck (a .mine) (a .theirs) (s .if1 .left) (n .if3 .left) (p .if4 .left) (c .if5 .taken)
 
 returns-6 : tie.Need-returns-6
 returns-6 c =
     let k = c .before .before .before in
     let p = k .before .before .before in
     let n = p .before .before .before in
-    rw rule-by
-    (simp (n .before .before .before .if1 .left, n .if3 .left, eq-eqb _ _ (p .if4 .left), k .if5 .left, eq-eqb _ _ (c .if6 .taken)))
+    let s = n .before .before .before in
+    let a = s .before .before .before .args in
+    one-cell (a .mine) (a .theirs) (s .if1 .left) (n .if3 .left) (p .if4 .left) (k .if5 .left) (c .if6 .taken)
 
 returns-7 : tie.Need-returns-7
 returns-7 c =
     let k = c .before .before .before in
     let p = k .before .before .before in
     let n = p .before .before .before in
-    rw rule-by
-    (simp (n .before .before .before .if1 .left, n .if3 .left, eq-eqb _ _ (p .if4 .left), k .if5 .left, ne-eqb _ _ (c .if6 .left)))
+    let s = n .before .before .before in
+    let a = s .before .before .before .args in
+    two-cells (a .mine) (a .theirs) (s .if1 .left) (n .if3 .left) (p .if4 .left) (k .if5 .left) (c .if6 .left)
 
 pub rule-met-spec : {M : Type 1} → statement M
 rule-met-spec =

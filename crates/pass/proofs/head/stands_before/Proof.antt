@@ -5,7 +5,10 @@ use Rattle.pass.proofs.head.stands_before.Statement.{statement}
 use Rattle.pass.proofs.head.stands_before.Tie as tie
 
 returns : tie.Need-returns
-returns c = let a = c .before .before .before .before .before .before .before .before .before .before .before .before .before .before .args in before-by (a .d) (a .e)
+returns c =
+    let m = c .before .before .before .before .before .before .before in
+    let a = m .before .before .before .before .before .before .before .args in
+    before-by (a .d) (a .e)
 
 pub stands-before-spec : {M : Type 1} → statement M
 stands-before-spec = tie.close (tie.spec returns)

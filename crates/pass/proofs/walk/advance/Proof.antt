@@ -24,10 +24,12 @@ abbrev μ-loop : tie.MeasureT-loop
 μ-loop c m layer e k₀ k = m - k .i
 
 room : (c : tie.Then1 Inv-loop μ-loop) →
-    c .before .before .loop .k .at + (c .before .before .before .before .args .c + 2) ≤ length (c .before .before .before .before .args .layer .now)
+    let a = c .before .before .before .before .args in
+    c .before .before .loop .k .at + (a .c + 2) ≤ length (a .layer .now)
 room c =
     let l = c .before .before in
-    room-here (l .before .before .args .c) (l .before .before .args .m) (l .before .before .args .layer .now) (l .loop .k) (l .loop .inv .stands) (c .if1 .taken)
+    let a = l .before .before .args in
+    room-here (a .c) (a .m) (a .layer .now) (l .loop .k) (l .loop .inv .stands) (c .if1 .taken)
 
 -- the test of a turn, by the entry itself
 judged : (c : tie.After-stands-before Inv-loop μ-loop) →
@@ -77,14 +79,15 @@ loop-less c = omega (arith, c .past .ensures .0, c .before .before .before .befo
 loop-again : tie.Need-loop-again Inv-loop μ-loop
 loop-again c =
     let t = c .before .before .before .before in
+    let k = t .before .before .loop .k in
+    let is = c .before .before .before .head-at .ensures in
     going-on (t .before .before .loop .inv) (c .past .result) (t .if1 .taken)
     (sym (judged (c .before .before)) ∙ not-false _ (c .before .if2 .left))
     (record {
       number = c .past .ensures .0;
       from = c .past .ensures .1;
-      adds = c .past .ensures .2 ∙ ap (λ (h : Head). t .before .before .loop .k .adds + one (eqb (h .kind) ADD)) (c .before .before .before .head-at .ensures);
-      strikes =
-          c .past .ensures .3 ∙ ap (λ (h : Head). t .before .before .loop .k .strikes + one (eqb (h .kind) STRIKE)) (c .before .before .before .head-at .ensures);
+      adds = c .past .ensures .2 ∙ ap (λ (h : Head). k .adds + one (eqb (h .kind) ADD)) is;
+      strikes = c .past .ensures .3 ∙ ap (λ (h : Head). k .strikes + one (eqb (h .kind) STRIKE)) is;
     })
 
 returns-2 : tie.Need-returns-2 Inv-loop μ-loop

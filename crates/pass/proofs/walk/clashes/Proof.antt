@@ -17,7 +17,9 @@ use Rattle.pass.proofs.walk.clashes.Statement.{statement}
 use Rattle.pass.proofs.walk.clashes.Tie as tie
 
 head-at-requires : tie.Need-head-at-requires
-head-at-requires c κs = let s = c .before .before .before in (room-here _ _ _ (s .args .k) (s .pre .1) (c .if1 .taken), s .pre .0)
+head-at-requires c κs =
+    let s = c .before .before .before in
+    (room-here _ _ _ (s .args .k) (s .pre .1) (c .if1 .taken), s .pre .0)
 
 rule-met-requires : tie.Need-rule-met-requires
 rule-met-requires c κs = search needs
@@ -30,7 +32,8 @@ returns c =
     ap (λ (n : ℕ). not (eqb n 0)) (c .rule-met .ensures)
     ∙ (met-number (clash (seen (a .e)) (seen (c .before .head-at .result)))
     ∙ (ap (λ (h : Head). met (clash (seen (a .e)) (seen h))) (c .before .head-at .ensures)
-    ∙ (ap met (clash-head (seen (a .e)) d) ∙ sym (ap (λ (L : Layer). met (ruleAhead (seen (a .e)) L)) (left-step _ _ _ (a .k) (t .if1 .taken))))))
+    ∙ (ap met (clash-head (seen (a .e)) d)
+    ∙ sym (ap (λ (L : Layer). met (ruleAhead (seen (a .e)) L)) (left-step _ _ _ (a .k) (t .if1 .taken))))))
 
 returns-2 : tie.Need-returns-2
 returns-2 c =

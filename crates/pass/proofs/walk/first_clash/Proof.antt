@@ -21,7 +21,8 @@ room : (c : tie.In-loop Inv-loop μ-loop) →
     c .before .loop .at + (a .c + 2) ≤ length (a .x .now)
 room c =
     let a = c .before .before .before .before .before .args in
-    here (a .c) (a .mx) (c .before .loop .i) (c .before .loop .at) (length (a .x .now)) (c .loop-test .taken) (c .before .loop .inv .walk .room)
+    here (a .c) (a .mx) (c .before .loop .i) (c .before .loop .at) (length (a .x .now)) (c .loop-test .taken)
+    (c .before .loop .inv .walk .room)
 
 some : (c : tie.Start Inv-loop μ-loop) → 0 < c .args .c
 some c = omega (arith, c .pre .mine .some)
@@ -46,7 +47,8 @@ returns : tie.Need-returns Inv-loop μ-loop
 returns c =
     let v = c .before .before in
     let t = v .before .before in
-    looking-found (t .before .loop .inv) (t .loop-test .taken) (v .before .head-at .result) (v .before .head-at .ensures) (v .advance .ensures)
+    looking-found (t .before .loop .inv) (t .loop-test .taken) (v .before .head-at .result)
+    (v .before .head-at .ensures) (v .advance .ensures)
     (sym (c .before .clashes .ensures) ∙ c .if1 .taken)
 
 add-at : tie.Need-add-at Inv-loop μ-loop
@@ -65,7 +67,8 @@ loop-again : tie.Need-loop-again Inv-loop μ-loop
 loop-again c =
     let v = c .before .before in
     let t = v .before .before in
-    looking-on (t .before .loop .inv) (t .loop-test .taken) (v .before .head-at .result) (v .before .head-at .ensures) (v .advance .ensures)
+    looking-on (t .before .loop .inv) (t .loop-test .taken) (v .before .head-at .result) (v .before .head-at .ensures)
+    (v .advance .ensures)
     (sym (c .before .clashes .ensures) ∙ c .if1 .left)
 
 returns-2 : tie.Need-returns-2 Inv-loop μ-loop

@@ -29,12 +29,16 @@ fits : (c : tie.In-loop Inv-loop μ-loop) →
     (c .before .loop .at + (c .before .before .before .before .before .args .c + 2) ≤ length (c .before .loop .x))
     × (length (c .before .loop .x) * 8 < 2 ^ 63)
 fits c =
-    let s = c .before .before .before .before .before in
-    (room _ _ _ _ _ (c .before .loop .inv) (c .loop-test .taken), omega (arith, c .before .loop .inv .size, s .good .1 .1 .0 .1))
+    let s = c .before .before .before .before .before in (
+      room _ _ _ _ _ (c .before .loop .inv) (c .loop-test .taken),
+      omega (arith, c .before .loop .inv .size, s .good .1 .1 .0 .1),
+    )
 
 -- its position, and the cursor once it has moved on
 sizes : (c : tie.After-advance Inv-loop μ-loop) →
-    (c .before .head-at .result .pos ≤ 4096) × (c .advance .result .strikes ≤ c .before .head-at .result .pos) × (c .advance .result .adds ≤ 512)
+    let e = c .before .head-at .result in
+    let r = c .advance .result in
+    (e .pos ≤ 4096) × (r .strikes ≤ e .pos) × (r .adds ≤ 512)
 sizes c =
     let t = c .before .before .before in
     let b = bounds _ _ _ _ _ (t .before .loop .inv) (t .loop-test .taken) (t .before .before .before .before .before .pre)

@@ -1,0 +1,92 @@
+-- The numbers that pass into a signed or a raised number are small: shifts, the places of a shift's refusals, added entries.
+-- Assumes nothing.
+use Prim.Native.Nat.{ℕ, _+_, _≤_}
+use native.Mathlib.Omega.{arith}
+use mathlib.Core.Path.{_≡_, refl, sym, ap, _∙_}
+use mathlib.Core.Bool.{Bool, true, false, not, cond, _&&_}
+use mathlib.Core.List.{List, []}
+use lib.ListN.{length}
+use lib.IntN.{ℤ, natAbs}
+use lib.Dec.{leb}
+use Rattle.model.specs.Layer.{Layer, rowsAfter}
+use Rattle.order.proofs.Pairs.{broken-le}
+use Rattle.model.specs.declared.Refusal.{Refusal}
+use Rattle.model.specs.declared.Answer.{Answer}
+use Rattle.model.specs.declared.Answer.the-variants.{Done, Refused}
+use Rattle.model.specs.declared.Shifted.{Shifted}
+use Rattle.model.specs.declared.Shifted.the-variants as shifted
+use Rattle.model.specs.declared.Back.{Back}
+use Rattle.model.specs.declared.Back.the-variants as backed
+use Rattle.model.specs.Raw.{layerOf, entriesOf, editOf}
+use Rattle.model.specs.Form.{zeros, sound, follows, formPlace, argsOk}
+use Rattle.model.specs.Position.{Origin, base, added, shift, back}
+use Rattle.model.specs.Refusals.{refusal, breaksForm}
+use Rattle.model.specs.Calls.{formAnswer, shiftAnswer, backAnswer, originAnswer}
+use Rattle.model.proofs.Raw.{entries-length, layer-length, args-held}
+use Rattle.model.proofs.Position.{back-added}
+use Rattle.form.proofs.Accepted.{accepted}
+use Rattle.place.specs.Checked.{checkedAt}
+use Rattle.place.proofs.Answers.{carried, done-at, shift-checked, shift-small, back-checked}
+
+-- the place of a layer that breaks form is an entry's or m
+form-place : (c n m : ℕ) (xs : List ℕ) → formPlace c n (entriesOf c m xs) ≤ m
+unfolding formPlace
+form-place c n m xs = omega (
+  arith,
+  entries-length c m 0 xs,
+  broken-le (λ e. zeros e && sound c n (editOf e)) (λ d e. follows (editOf d) (editOf e)) [] (entriesOf c m xs),
+)
+
+module _ (c n m : ℕ) (xs : List ℕ) (s : ℕ) where
+  pub shift-by : (z : ℤ) → shiftAnswer c n m xs s ≡ shifted.By z → natAbs z ≤ 512
+  shift-by z e = go (checkedAt c n m xs s) refl (sym (shift-checked c n m xs s) ∙ e)
+    where
+      go : (a : Answer) → checkedAt c n m xs s ≡ a
+          → carried shifted.Refused (shifted.By (shift (layerOf c m xs) s)) a ≡ shifted.By z → natAbs z ≤ 512
+      go (Done k) f g =
+          let e : z ≡ shift (layerOf c m xs) s = cc in
+          rw e (shift-small c m xs s (done-at c n m xs s f .1 .held))
+      go (Refused x) f g = absurd (let w : _≡_ {A = ℕ} 0 1 = cc in omega arith)
+
+  pub shift-refused : (x : Refusal) → shiftAnswer c n m xs s ≡ shifted.Refused x → x .place ≤ 512
+  unfolding shiftAnswer
+  shift-refused x e = go (argsOk c n m (length xs)) refl (leb s n) (breaksForm c n m xs) e
+    where
+      go : (a : Bool) → argsOk c n m (length xs) ≡ a → (b d : Bool)
+          → cond (not (a && b)) (shifted.Refused (refusal 1 0))
+          (cond d (shifted.Refused (refusal 2 (0 + formPlace c n (entriesOf c m xs))))
+          (shifted.By (shift (layerOf c m xs) s)))
+          ≡ shifted.Refused x
+          → x .place ≤ 512
+      go true h true true g =
+          let w : x .place ≡ 0 + formPlace c n (entriesOf c m xs) = cc in
+          omega (arith, w, form-place c n m xs, args-held c n m xs h .0 .entries)
+      go true h true false g = absurd (let w : _≡_ {A = ℕ} 0 1 = cc in omega arith)
+      go true h false d g = let w : x .place ≡ 0 = cc in omega (arith, w)
+      go false h b d g = let w : x .place ≡ 0 = cc in omega (arith, w)
+
+  -- an added entry's number is one of the layer's
+  pub back-small : (i : ℕ) → backAnswer c n m xs s ≡ backed.Added i → i ≤ 512
+  back-small i e = go (formAnswer c n m xs) refl (sym (back-checked c n m xs s) ∙ e)
+    where
+      L : Layer
+      L = layerOf c m xs
+
+      of-origin : (o : Origin) → originAnswer o ≡ backed.Added i → o ≡ added i
+      of-origin (base p) g = absurd (let w : _≡_ {A = ℕ} 0 1 = cc in omega arith)
+      of-origin (added h) g = ap added cc
+
+      unless-past : (t : Bool) → cond t (backed.Refused (refusal 5 0)) (originAnswer (back n L s)) ≡ backed.Added i
+          → back n L s ≡ added i
+      unless-past true g = absurd (let w : _≡_ {A = ℕ} 0 1 = cc in omega arith)
+      unless-past false g = of-origin (back n L s) g
+
+      go : (a : Answer) → formAnswer c n m xs ≡ a
+          → carried backed.Refused
+          (cond (leb (rowsAfter n L) s) (backed.Refused (refusal 5 0)) (originAnswer (back n L s))) a
+          ≡ backed.Added i
+          → i ≤ 512
+      go (Done k) f g =
+          let A = accepted c n m xs k f in
+          omega (arith, back-added c n L (A .ordered) s i (unless-past (leb (rowsAfter n L) s) g) .1, A .size, A .held .entries)
+      go (Refused x) f g = absurd (let w : _≡_ {A = ℕ} 0 1 = cc in omega arith)

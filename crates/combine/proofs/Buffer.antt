@@ -1,0 +1,104 @@
+-- A buffer filled piece by piece from the front: what a written entry, a patched row and a run leave there.
+-- Assumes nothing.
+use mathlib.Core.Path.{_≡_, refl, sym, ap, _∙_}
+use mathlib.Core.List.{List, [], _∷_, _++_, append-assoc, append-nil}
+use Prim.Native.Nat.{ℕ, suc, _+_, _-_, _≤_, _<_}
+use native.Mathlib.Omega.{arith}
+use lib.ListN.{length, getD, set, take, drop, length-append, length-set, take-append-drop}
+use lib.Seq.{
+  paste,
+  length-paste,
+  take-paste,
+  take-length,
+  length-take-le,
+  set-append-seam,
+  set-at,
+  take-at,
+  drop-at,
+  take-take,
+}
+use borrow.Rule.Slice.PartMut.{putMid}
+use Rattle.run.proofs.Laws.{put-back}
+use Rattle.read.proofs.Writing.{part-slice}
+use Rattle.form.proofs.Laws.{vals-length}
+use Rattle.combine.specs.Walk.{Put}
+use Rattle.combine.proofs.Entries.{entry-run}
+
+-- a run pasted
+pub put-paste : (ys old new : List ℕ) (o : ℕ) → o + length ys ≤ length old → new ≡ paste old o ys (length ys) → Put ys old o new
+put-paste ys old new o h e = record {
+  size = ap length e ∙ length-paste old o ys (length ys) h (omega arith);
+  front = rw (e, take-paste old o ys (length ys) (omega arith) (omega arith), take-length ys);
+}
+
+-- the first number set anew
+pub put-first : (x p : ℕ) (ys old new : List ℕ) (o : ℕ) → o + suc (length ys) ≤ length old → new ≡ paste old o (x ∷ ys) (suc (length ys))
+    → Put (p ∷ ys) old o (set new o p)
+put-first x p ys old new o h e =
+    let l : length (take o old) ≡ o = length-take-le o old (omega arith) in
+    let rest = drop (o + suc (length ys)) old in
+    let q : set new o p ≡ take o old ++ (p ∷ (ys ++ rest)) =
+    rw (e, take-length (x ∷ ys), append-assoc (take o old) (x ∷ ys) rest) (set-at (take o old) x (ys ++ rest) p o l) in
+    let r : set new o p ≡ (take o old ++ (p ∷ ys)) ++ rest = q ∙ sym (append-assoc (take o old) (p ∷ ys) rest) in
+    record {
+      size = length-set new o p ∙ (ap length e ∙ length-paste old o (x ∷ ys) (suc (length ys)) h (omega arith));
+      front = rw (r) (take-at (take o old ++ (p ∷ ys)) rest (o + suc (length ys)) (omega (arith, length-append (take o old) (p ∷ ys))));
+    }
+
+-- an entry written at another position
+pub put-entry : (c p from o : ℕ) (xs old new : List ℕ) → from + (c + 2) ≤ length xs → o + (c + 2) ≤ length old
+    → new ≡ paste old o (take (from + (c + 2) - from) (drop from xs)) (length (take (from + (c + 2) - from) (drop from xs)))
+    → Put (p ∷ getD xs (from + 1) 0 ∷ take c (drop (from + 2) xs)) old o (set new o p)
+put-entry c p from o xs old new h k e =
+    let ys = getD xs (from + 1) 0 ∷ take c (drop (from + 2) xs) in
+    let w : from + (c + 2) - from ≡ c + 2 = omega arith in
+    let r : take (from + (c + 2) - from) (drop from xs) ≡ getD xs from 0 ∷ ys =
+    ap (λ (n : ℕ). take n (drop from xs)) w ∙ entry-run c from xs h in
+    put-first (getD xs from 0) p ys old new o (omega (arith, vals-length c from xs h))
+    (e ∙ ap (λ (t : List ℕ). paste old o t (length t)) r)
+
+-- the whole is what stands in front, a piece, and the rest: the piece is written
+pub front-on : (whole ys rest old new : List ℕ) (o : ℕ) → whole ≡ take o old ++ (ys ++ rest) → Put ys old o new
+    → whole ≡ take (o + length ys) new ++ rest
+front-on whole ys rest old new o e w = e ∙ (sym (append-assoc (take o old) ys rest) ∙ ap (λ (t : List ℕ). t ++ rest) (sym (w .front)))
+
+-- two pieces, one behind the other
+pub put-both : (ys zs old mid new : List ℕ) (o : ℕ) → Put ys old o mid → Put zs mid (o + length ys) new → Put (ys ++ zs) old o new
+put-both ys zs old mid new o v w =
+    let n : o + length (ys ++ zs) ≡ o + length ys + length zs = omega (arith, length-append ys zs) in
+    record {
+      size = w .size ∙ v .size;
+      front = ap (λ (i : ℕ). take i new) n
+          ∙ (w .front ∙ (ap (λ (t : List ℕ). t ++ zs) (v .front) ∙ append-assoc (take o old) ys zs));
+    }
+
+-- an entry whose values are written again
+module _ (c x k o : ℕ) (vals row old mid new : List ℕ) (w : Put (x ∷ k ∷ vals) old o mid) (lv : length vals ≡ c)
+    (h : o + (c + 2) ≤ length old) where
+  two : length (take o old ++ (x ∷ k ∷ [])) ≡ o + 2
+  two = omega (arith, length-append (take o old) (x ∷ k ∷ []), length-take-le o old (omega arith))
+
+  whole : take (o + 2 + c) mid ≡ (take o old ++ (x ∷ k ∷ [])) ++ vals
+  whole =
+      let n : o + 2 + c ≡ o + length (x ∷ k ∷ vals) = omega arith in
+      ap (λ (i : ℕ). take i mid) n ∙ (w .front ∙ sym (append-assoc (take o old) (x ∷ k ∷ []) vals))
+
+  pub values-part : take (o + 2 + c - (o + 2)) (drop (o + 2) mid) ≡ vals
+  values-part = part-slice (o + 2) (o + 2 + c) mid
+      ∙ (ap (drop (o + 2)) whole ∙ drop-at (take o old ++ (x ∷ k ∷ [])) vals (o + 2) two)
+
+  front-part : take (o + 2) mid ≡ take o old ++ (x ∷ k ∷ [])
+  front-part = sym (take-take (o + 2) (o + 2 + c) mid (omega arith))
+      ∙ (ap (take (o + 2)) whole ∙ take-at (take o old ++ (x ∷ k ∷ [])) vals (o + 2) two)
+
+  pub put-values : length row ≡ c → new ≡ putMid (o + 2) (o + 2 + c - (o + 2)) mid row → Put (x ∷ k ∷ row) old o new
+  put-values lr e =
+      let n : new ≡ paste mid (o + 2) row (length row) =
+      e ∙ (ap (λ (i : ℕ). putMid (o + 2) (o + 2 + i - (o + 2)) mid row) (sym lr) ∙ put-back mid row row (o + 2) refl) in
+      let p = put-paste row mid new (o + 2) (omega (arith, w .size)) n in
+      let m : o + length (x ∷ k ∷ row) ≡ o + 2 + length row = omega arith in
+      record {
+        size = p .size ∙ w .size;
+        front = ap (λ (i : ℕ). take i new) m
+            ∙ (p .front ∙ (ap (λ (t : List ℕ). t ++ row) front-part ∙ append-assoc (take o old) (x ∷ k ∷ []) row));
+      }

@@ -1,0 +1,16 @@
+pub mod Deeds
+pub mod Keyed
+pub mod Weaving
+pub mod Combined
+pub mod Entries
+pub mod Buffer
+pub mod Patching
+pub mod Placing
+pub mod Left
+pub mod Walking
+pub mod Finishing
+pub mod Joining
+pub mod Answering
+pub mod Accepting
+pub mod Promises
+pub mod Examples
