@@ -3,3 +3,5 @@ pub mod Based
 pub mod Hearing
 pub mod Printed
 pub mod Feeding
+pub mod Lines
+pub mod Once

@@ -73,3 +73,27 @@ pub record Ended (f : Feed) (i : Reading) (f′ : Feed) (i′ : Reading) : Type 
   pub short : f′ .kept ≡ 0
   pub said : f′ .at ≤ f .at + 50
   pub counted : f′ .desk .lines ≡ f .desk .lines + 1
+
+-- the lines of the input, the first of which has begun with l: each up to its line feed, which the last may lack
+abbrev pub lastLine : List ℕ → List (List ℕ)
+lastLine [] = []
+lastLine (b ∷ l) = (b ∷ l) ∷ []
+
+unfoldable pub linesFrom : List ℕ → List ℕ → List (List ℕ)
+linesFrom l [] = lastLine l
+linesFrom l (b ∷ bs) = cond (eqb b 10) (l ∷ linesFrom [] bs) (linesFrom (l ++ (b ∷ [])) bs)
+
+abbrev pub linesOf : List ℕ → List (List ℕ)
+linesOf bs = linesFrom [] bs
+
+-- lines read in turn
+unfoldable pub linesIn : List (List ℕ) → Reading → Reading
+linesIn ls i = inTurn lineIn ls i
+
+-- the input ends: a line that has begun ends with it
+abbrev pub lastIn : List ℕ → Reading → Reading
+lastIn [] i = i
+lastIn (b ∷ l) i = lineIn (b ∷ l) i
+
+unfoldable pub inputEnds : Reading → Reading
+inputEnds i = lastIn (i .line) i

@@ -3,3 +3,4 @@ pub mod Pass
 pub mod Sign
 pub mod Digits
 pub mod Examples
+pub mod Length

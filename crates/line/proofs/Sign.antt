@@ -16,7 +16,7 @@ use Rattle.line.specs.Line.{onto, fields, said, lineOfFields, lineOf}
 use Rattle.line.specs.Fields.{withFields}
 use Rattle.line.proofs.Reading.{fields-some}
 
-same-both : (t : Bool) (l : Line) → l ≡ Unreadable → cond t l Unreadable ≡ Unreadable
+pub same-both : (t : Bool) (l : Line) → l ≡ Unreadable → cond t l Unreadable ≡ Unreadable
 same-both true l e = e
 same-both false l e = refl
 
@@ -28,7 +28,7 @@ said-empty (a ∷ b ∷ []) = refl
 said-empty (a ∷ b ∷ c ∷ []) = refl
 said-empty (a ∷ b ∷ c ∷ d ∷ vs) = refl
 
-said-long : (x y : ℕ) (g vs : List ℕ) → said (x ∷ y ∷ g) vs ≡ Unreadable
+pub said-long : (x y : ℕ) (g vs : List ℕ) → said (x ∷ y ∷ g) vs ≡ Unreadable
 said-long x y g [] = refl
 said-long x y g (a ∷ []) = refl
 said-long x y g (a ∷ b ∷ []) = refl
