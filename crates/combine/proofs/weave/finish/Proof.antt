@@ -42,7 +42,8 @@ sub-put-uppers : tie.Need-sub-put-uppers
 sub-put-uppers c = search needs
 
 mul-put-uppers : tie.Need-mul-put-uppers
-mul-put-uppers c = let s = c .before .before .before .before .before .before .before .before in omega (arith, upper-off s, s .pre .upper .room)
+mul-put-uppers c = let s = c .before .before .before .before .before .before .before .before in omega
+    (arith, upper-off s, s .pre .upper .room)
 
 put-uppers-requires : tie.Need-put-uppers-requires
 put-uppers-requires c κs =
