@@ -1,20 +1,18 @@
 -- What an accepted combination has passed, and that its layer, as it lies in the slice, passes the fit check again.
 -- Assumes nothing.
-use mathlib.Core.Path.{_≡_, refl, sym, ap, subst, _∙_}
-use mathlib.Core.Bool.{Bool, true, false, not, cond, _&&_, _||_}
-use mathlib.Core.List.{List, [], _∷_, _++_, map, List·Memᴰ as Mem, List·Memᴰ·not-nil as not-nil}
+use mathlib.Core.Path.{_≡_, refl, _∙_}
+use mathlib.Core.Bool.{Bool, true, false, cond, _&&_}
+use mathlib.Core.List.{List, [], _∷_, map, List·Memᴰ as Mem, List·Memᴰ·not-nil as not-nil}
 use Prim.Native.Nat.{ℕ, _+_, _*_, _≤_}
 use native.Mathlib.Omega.{arith}
 use lib.ListN.{length}
-use lib.Dec.{leb, ltb, eqb}
+use lib.Dec.{leb, ltb}
 use borrow.Author.Tests.{ltb-false, le-ltb, le-leb, eqb-true, not-false}
 use Rattle.order.specs.Lists.{ascending}
 use Rattle.order.proofs.Tests.{and-l, and-r, and-of, or-false}
 use Rattle.order.proofs.Members.{mem-map}
-use Rattle.order.proofs.Pairs.{AllPairs, Unbroken, of-unbroken}
-use Rattle.model.specs.declared.Refusal.{Refusal}
+use Rattle.order.proofs.Pairs.{AllPairs, of-unbroken}
 use Rattle.model.specs.declared.Entry.{Entry}
-use Rattle.model.specs.declared.Answer.{Answer}
 use Rattle.model.specs.declared.Answer.the-variants.{Done, Refused}
 use Rattle.model.specs.Limits.{mostColumns, mostEntries, mostRows}
 use Rattle.model.specs.Layer.{Edit, Layer, rowsAfter}
@@ -38,7 +36,7 @@ use Rattle.model.specs.Refusals.{
 use Rattle.model.specs.Calls.{formAnswer, fitAnswer, combineAnswer, combinedLayer}
 use Rattle.model.proofs.Raw.{layer-length, entries-length}
 use Rattle.form.specs.InForm.{InForm}
-use Rattle.combine.specs.Rows.{Forms, Fits}
+use Rattle.combine.specs.Rows.{Fits}
 use Rattle.combine.proofs.Answering.{other-rows}
 
 -- no test is met

@@ -1,15 +1,15 @@
 -- The refusal table for combining, row by row: what each test before the join answers, and what is known once it is
 -- passed.
 -- Assumes nothing.
-use mathlib.Core.Path.{_≡_, refl, sym, ap, subst, _∙_}
-use mathlib.Core.Bool.{Bool, true, false, not, cond, _&&_}
+use mathlib.Core.Path.{_≡_, sym, ap, subst, _∙_}
+use mathlib.Core.Bool.{Bool, true, false, cond, _&&_}
 use mathlib.Core.List.{List, [], _∷_, _++_}
 use Prim.Native.Nat.{ℕ, _+_, _*_, _≤_, _<_}
 use native.Mathlib.Nat.{zero-add}
 use native.Mathlib.Omega.{arith}
 use lib.ListN.{length, take, drop}
-use lib.Seq.{take-append-seam, length-take-le}
-use lib.Dec.{leb, ltb}
+use lib.Seq.{take-append-seam}
+use lib.Dec.{leb}
 use borrow.Author.Tests.{lt-ltb, le-ltb, le-leb}
 use Rattle.order.specs.Lists.{ascending}
 use Rattle.order.proofs.Tests.{and-l, and-r, and-of}
@@ -36,14 +36,14 @@ use Rattle.model.specs.Refusals.{
   tooManyRows,
   breaksForm,
 }
-use Rattle.model.specs.Calls.{formAnswer, combineAnswer, combinedLayer, shownColumn}
+use Rattle.model.specs.Calls.{formAnswer, combineAnswer, combinedLayer}
 use Rattle.model.proofs.Raw.{layer-length, entries-length, args-held}
 use Rattle.form.specs.InForm.{InForm}
 use Rattle.form.proofs.Accepted.{Accepted, accepted, in-form}
 use Rattle.form.proofs.Answers.{raised, onward, after-form, form-row}
 use Rattle.read.specs.Runs.{Readable}
 use Rattle.read.proofs.Ready.{ready}
-use Rattle.combine.specs.Rows.{joinAnswer, fitsAnswer, Forms, Fits}
+use Rattle.combine.specs.Rows.{joinAnswer, fitsAnswer, Forms}
 
 -- the arguments pass over other rows too
 pub other-rows : (c n k m len : ℕ) → argsOk c n m len ≡ true → k ≤ 4096 → argsOk c k m len ≡ true

@@ -1,10 +1,10 @@
 -- A buffer filled piece by piece from the front: what a written entry, a patched row and a run leave there.
 -- Assumes nothing.
 use mathlib.Core.Path.{_≡_, refl, sym, ap, _∙_}
-use mathlib.Core.List.{List, [], _∷_, _++_, append-assoc, append-nil}
-use Prim.Native.Nat.{ℕ, suc, _+_, _-_, _≤_, _<_}
+use mathlib.Core.List.{List, [], _∷_, _++_, append-assoc}
+use Prim.Native.Nat.{ℕ, suc, _+_, _-_, _≤_}
 use native.Mathlib.Omega.{arith}
-use lib.ListN.{length, getD, set, take, drop, length-append, length-set, take-append-drop}
+use lib.ListN.{length, getD, set, take, drop, length-append, length-set}
 use lib.Seq.{
   paste,
   length-paste,

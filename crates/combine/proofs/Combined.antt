@@ -2,19 +2,19 @@
 -- the same for every key.
 -- Assumes nothing.
 use mathlib.Core.Path.{_≡_, refl, sym, ap, subst, _∙_}
-use mathlib.Core.Logic.{_⊎_, inl, inr}
+use mathlib.Core.Logic.{inl, inr}
 use mathlib.Core.Bool.{true, false, true≢false}
 use mathlib.Core.List.{List, [], _∷_, map, List·Memᴰ as Mem}
-use Prim.Native.Nat.{ℕ, _+_, _≤_}
+use Prim.Native.Nat.{ℕ, _+_}
 use native.Mathlib.Omega.{arith}
 use lib.ListN.{length, getD}
 use lib.Dec.{ltb}
 use borrow.Author.Tests.{le-leb}
 use Rattle.order.specs.Lists.{one, count, ascending}
 use Rattle.order.proofs.Counts.{count-same}
-use Rattle.order.proofs.Ascending.{AscFrom, At, below, at-mem, at-count, asc-of, asc-same}
+use Rattle.order.proofs.Ascending.{AscFrom, below, at-mem, at-count, asc-of, asc-same}
 use Rattle.model.specs.Row.{Row, Table, key, keys}
-use Rattle.model.specs.Layer.{Deed, add, strike, change, Edit, at, Layer, rowsAfter, position, struck, changed}
+use Rattle.model.specs.Layer.{add, strike, change, Edit, at, Layer, rowsAfter, position, struck}
 use Rattle.model.specs.Form.{sound, inOrder}
 use Rattle.model.specs.Fit.{fits, keysBelow}
 use Rattle.model.specs.Read.{read, keysAfter}

@@ -3,25 +3,23 @@
 -- Assumes nothing.
 use mathlib.Core.Path.{_≡_, refl, sym, ap, _∙_}
 use mathlib.Core.Bool.{Bool, true, false, not, cond, _&&_, _||_, true≢false}
-use mathlib.Core.List.{List, [], _∷_, _++_, map, List·Memᴰ as Mem, List·Memᴰ·head as here}
-use Prim.Native.Nat.{ℕ, suc, _+_, _*_, _-_, _≤_, _<_}
-use native.Mathlib.Numerals.{add-one}
+use mathlib.Core.List.{List, [], _∷_}
+use Prim.Native.Nat.{ℕ, suc, _+_, _≤_, _<_}
 use native.Mathlib.Omega.{arith}
 use lib.ListN.{length, getD, set, take, drop}
 use lib.Seq.{drop-cons}
 use lib.Dec.{leb, ltb, eqb}
-use borrow.Author.Tests.{ltb-true, lt-ltb, le-ltb, eqb-true, eqb-false}
-use Rattle.order.proofs.Tests.{tests, and-l, and-r, or-false}
+use borrow.Author.Tests.{ltb-true, lt-ltb, le-ltb}
+use Rattle.order.proofs.Tests.{tests, and-l, or-false}
 use Rattle.model.specs.declared.Entry.{Entry}
 use Rattle.model.specs.Row.{key}
 use Rattle.model.specs.Cell.{to, put}
-use Rattle.model.specs.Layer.{Deed, add, strike, change, Edit, at, Layer}
+use Rattle.model.specs.Layer.{add, strike, change, Edit, at, Layer}
 use Rattle.model.specs.Form.{sound, zeros}
-use Rattle.model.specs.Raw.{ADD, STRIKE, entryAt, deedOf, editOf, numbersOf}
+use Rattle.model.specs.Raw.{ADD, STRIKE, deedOf, editOf, numbersOf}
 use Rattle.model.specs.Meaning.{keyOf}
 use Rattle.model.proofs.Cell.{put-length}
 use Rattle.form.proofs.Flat.{entry-numbers}
-use Rattle.combine.specs.declared.weave.Step.{Step}
 use Rattle.combine.specs.declared.weave.Step.the-variants.{Lower, Upper, UpperHere, Drop, Vanish, Patch}
 use Rattle.combine.specs.Woven.{deed, meet, meetKinds, stepOf, placed, changesAhead, patched}
 

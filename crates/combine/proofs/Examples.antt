@@ -10,7 +10,7 @@ use lib.Dec.{ltb}
 use borrow.Author.Tests.{le-ltb}
 use Rattle.model.specs.declared.Answer.{Answer}
 use Rattle.model.specs.declared.Answer.the-variants.{Done}
-use Rattle.model.specs.Row.{Table, key, keys}
+use Rattle.model.specs.Row.{key, keys}
 use Rattle.model.specs.Cell.{put}
 use Rattle.model.specs.Layer.{Layer}
 use Rattle.model.specs.Raw.{entriesAt, layerOf, flat, room}

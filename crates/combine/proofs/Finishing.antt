@@ -1,13 +1,12 @@
 -- What is left of both layers is written: the lower one's numbers as they lie, then the upper's entries.
 -- Assumes nothing.
-use mathlib.Core.Path.{_≡_, refl, sym, ap, subst, _∙_}
+use mathlib.Core.Path.{_≡_, sym, ap, subst, _∙_}
 use mathlib.Core.List.{List, _++_, map}
 use Prim.Native.Nat.{ℕ, _+_, _*_, _-_, _≤_}
 use native.Mathlib.Nat.{add-mul, mul-le-mul-right}
 use native.Mathlib.Omega.{arith}
 use lib.ListN.{length, take, drop, length-take, length-drop}
 use lib.Seq.{paste}
-use Rattle.model.specs.Layer.{Layer}
 use Rattle.model.specs.Raw.{flat}
 use Rattle.write.proofs.Layers.{flat-append}
 use Rattle.combine.specs.Woven.{rebased}

@@ -1,29 +1,25 @@
 -- Two layers that fit are joined: what the walk needs, that it leaves the combination, and what the join answers and
 -- writes.
 -- Assumes nothing.
-use mathlib.Core.Path.{_≡_, refl, sym, ap, subst, _∙_}
+use mathlib.Core.Path.{_≡_, sym, ap, subst, _∙_}
 use mathlib.Core.Bool.{true}
-use mathlib.Core.List.{List, [], _∷_, _++_}
-use Prim.Native.Nat.{ℕ, _+_, _*_, _/_, _≤_, _<_, min}
+use mathlib.Core.List.{List, [], _++_}
+use Prim.Native.Nat.{ℕ, _+_, _*_, _/_, _≤_, _<_}
 use native.Mathlib.Nat.{mul-le-mul, mul-le-mul-right, div-mul-le-self, zero-add}
 use native.Mathlib.Omega.{arith}
 use lib.ListN.{length, take, drop}
 use lib.Seq.{paste, take-length}
-use lib.Dec.{ltb, eqb}
 use borrow.Author.Tests.{eq-eqb, lt-ltb, le-ltb}
 use Rattle.order.proofs.Pairs.{broken-le}
-use Rattle.model.specs.declared.Answer.{Answer}
 use Rattle.model.specs.declared.Answer.the-variants.{Done, Refused}
-use Rattle.model.specs.Limits.{mostEntries, mostRows}
+use Rattle.model.specs.Limits.{mostRows}
 use Rattle.model.specs.Layer.{Layer, rowsAfter}
 use Rattle.model.specs.Raw.{layerOf, flat, room}
-use Rattle.model.specs.Form.{inOrder}
 use Rattle.model.specs.Fit.{suits, rises, fitPlace, fits}
 use Rattle.model.specs.Read.{keysAfter}
 use Rattle.model.specs.Redo.{combine}
 use Rattle.model.specs.Refusals.{refusal}
-use Rattle.model.specs.Calls.{formAnswer, combinedLayer, written}
-use Rattle.model.proofs.Raw.{layer-length}
+use Rattle.model.specs.Calls.{formAnswer}
 use Rattle.form.specs.InForm.{InForm}
 use Rattle.form.proofs.Accepted.{Accepted, accepted}
 use Rattle.read.proofs.Ready.{ready}

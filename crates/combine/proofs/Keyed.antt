@@ -3,7 +3,7 @@
 -- Assumes nothing.
 use mathlib.Core.Path.{_≡_, refl, sym, ap, subst, _∙_}
 use mathlib.Core.Logic.{_⊎_, inl, inr}
-use mathlib.Core.Bool.{Bool, true, false, cond, _&&_, _||_, true≢false}
+use mathlib.Core.Bool.{Bool, true, false, _&&_, _||_, true≢false}
 use mathlib.Core.List.{
   List,
   [],
@@ -19,16 +19,14 @@ use native.Mathlib.Omega.{arith}
 use lib.ListN.{getD}
 use lib.Dec.{ltb, eqb}
 use borrow.Author.Tests.{ltb-true, ltb-false, eqb-true, eqb-false, eq-eqb, ne-eqb}
-use Rattle.order.specs.Lists.{count, gather}
 use Rattle.order.proofs.Tests.{tests, lex-cases, lex-lt, lex-eq}
 use Rattle.order.proofs.Pairs.{AllPairs, pairs-weaker}
-use Rattle.order.proofs.Ascending.{AscFrom, At, below, at-mem, at-count, count-strict, count-rise}
+use Rattle.order.proofs.Ascending.{AscFrom, At, at-mem, at-count, count-strict, count-rise}
 use Rattle.model.specs.Row.{Row, Table, key, keys}
-use Rattle.model.specs.Cell.{CellEdit}
 use Rattle.model.specs.Layer.{Deed, add, strike, change, Edit, at, Layer, position}
 use Rattle.model.specs.Fit.{keysBelow}
 use Rattle.model.specs.Edits.{deedBefore, before}
-use Rattle.model.specs.Meaning.{keyOf, concerning, meaning}
+use Rattle.model.specs.Meaning.{keyOf, meaning}
 use Rattle.model.proofs.Edits.{before-cases}
 use Rattle.model.proofs.Fit.{Fit, key-of, below-keys}
 use Rattle.model.proofs.Meaning.{meaning-mem, position-of, changed-kept}

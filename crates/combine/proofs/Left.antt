@@ -19,7 +19,7 @@ use native.Mathlib.Omega.{arith}
 use lib.ListN.{length, take, drop, length-map}
 use Rattle.order.proofs.Members.{mem-map, map-mem}
 use Rattle.model.specs.declared.Entry.{Entry}
-use Rattle.model.specs.Layer.{Edit, Layer}
+use Rattle.model.specs.Layer.{Edit}
 use Rattle.model.specs.Form.{zeros}
 use Rattle.model.specs.Raw.{entryAt, entriesAt, entriesOf, editOf, layerOf, flat}
 use Rattle.model.proofs.Raw.{rest-step, rest-end, entries-add, entries-length, within}

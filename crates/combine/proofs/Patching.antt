@@ -2,15 +2,15 @@
 -- Assumes nothing.
 use mathlib.Core.Path.{_≡_, refl, sym, ap, subst, _∙_}
 use mathlib.Core.Bool.{true, false, not, _||_}
-use mathlib.Core.List.{List, [], _∷_, map, List·Memᴰ as Mem, List·Memᴰ·head as here, List·Memᴰ·tail as next}
-use Prim.Native.Nat.{ℕ, suc, _+_, _*_, _-_, _≤_, _<_}
+use mathlib.Core.List.{List, _∷_, map, List·Memᴰ as Mem, List·Memᴰ·head as here, List·Memᴰ·tail as next}
+use Prim.Native.Nat.{ℕ, _+_, _*_, _-_, _≤_, _<_}
 use native.Mathlib.Nat.{sub-zero}
 use native.Mathlib.Omega.{arith}
 use lib.ListN.{length, getD, set, length-set}
 use lib.Dec.{eqb}
 use Rattle.order.proofs.Tests.{or-false}
 use Rattle.model.specs.Cell.{CellEdit, to}
-use Rattle.model.specs.Layer.{Deed, change, Edit, at, Layer}
+use Rattle.model.specs.Layer.{change, at, Layer}
 use Rattle.model.specs.Raw.{entryAt, entriesAt, editOf}
 use Rattle.model.proofs.Raw.{edits-step, edits-end}
 use Rattle.model.proofs.Raw as raw

@@ -16,7 +16,7 @@ use mathlib.Core.List.{
 use Prim.Native.Nat.{ℕ, _+_, _*_, _-_, _≤_, _<_}
 use native.Mathlib.Nat.{sub-zero}
 use native.Mathlib.Omega.{arith}
-use lib.ListN.{length, getD, take, drop, length-append}
+use lib.ListN.{length, getD, take, length-append}
 use lib.Seq.{length-take-le}
 use Rattle.model.specs.declared.Entry.{Entry}
 use Rattle.model.specs.Layer.{Edit, at, Layer}

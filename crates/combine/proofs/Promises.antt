@@ -1,14 +1,13 @@
 -- What is promised of combining: the layer left keeps form, fits and reads as R and then W in turn; one outcome for
 -- each input.
 -- Assumes nothing.
-use mathlib.Core.Path.{_≡_, refl, sym, ap, subst, _∙_}
+use mathlib.Core.Path.{_≡_, sym, ap, subst, _∙_}
 use mathlib.Core.Bool.{true}
-use mathlib.Core.List.{List, [], _∷_, _++_, List·Memᴰ as Mem}
-use Prim.Native.Nat.{ℕ, _+_, _*_, _≤_, _<_}
+use mathlib.Core.List.{List, _++_, List·Memᴰ as Mem}
+use Prim.Native.Nat.{ℕ, _+_, _*_, _≤_}
 use native.Mathlib.Omega.{arith}
-use lib.ListN.{length, drop, length-append, length-map}
+use lib.ListN.{length, drop, length-append}
 use lib.Seq.{drop-at}
-use lib.Dec.{leb}
 use borrow.Author.Tests.{le-leb}
 use contract.Lifetimes.{Lfts}
 use denote.Ref.{now}
@@ -17,7 +16,7 @@ use borrow.Fn.Kinds.{Dens, endedOf}
 use Rattle.order.proofs.Pairs.{AllPairs, pairs-weaker}
 use Rattle.order.proofs.Ascending.{AscFrom, asc-of}
 use Rattle.model.specs.declared.Answer.{Answer}
-use Rattle.model.specs.declared.Answer.the-variants.{Done, Refused}
+use Rattle.model.specs.declared.Answer.the-variants.{Done}
 use Rattle.model.specs.Limits.{mostRows}
 use Rattle.model.specs.Row.{Table, key, keys, column}
 use Rattle.model.specs.Layer.{Edit, Layer, rowsAfter}
@@ -28,7 +27,7 @@ use Rattle.model.specs.Fit.{fits}
 use Rattle.model.specs.Read.{read, readColumn, keysAfter}
 use Rattle.model.specs.Edits.{before}
 use Rattle.model.specs.Redo.{combine}
-use Rattle.model.specs.Calls.{combinedLayer, combineAnswer, written}
+use Rattle.model.specs.Calls.{combinedLayer, written}
 use Rattle.model.proofs.Edits.{before-follows}
 use Rattle.model.proofs.Fit.{Good, keys-length, good-of}
 use Rattle.model.proofs.Column.{Wide, column-read, read-wide}

@@ -1,25 +1,24 @@
 -- The state of the loop that walks along both layers, and what each step does to it.
 -- Assumes nothing.
-use mathlib.Core.Path.{_≡_, refl, sym, ap, subst, _∙_}
+use mathlib.Core.Path.{_≡_, refl, sym, ap, _∙_}
 use mathlib.Core.Bool.{Bool, true, false, cond, _&&_, true≢false}
 use mathlib.Core.List.{List, [], _∷_, _++_, map, append-nil, List·Memᴰ as Mem}
 use Prim.Native.Nat.{ℕ, zero, suc, _+_, _*_, _-_, _≤_, _<_}
 use native.Mathlib.Nat.{zero-mul, suc-mul, add-mul, mul-le-mul-right}
 use native.Mathlib.Omega.{arith}
 use lib.ListN.{length, getD, take, drop, length-append, length-map, length-take}
-use lib.Seq.{length-take-le, take-all}
+use lib.Seq.{length-take-le}
 use lib.Dec.{leb, ltb, eqb}
-use borrow.Author.Tests.{ltb-true, ltb-false, leb-true, eqb-true, lt-ltb}
-use Rattle.order.specs.Lists.{one, count}
+use borrow.Author.Tests.{ltb-true, ltb-false, leb-true, eqb-true}
+use Rattle.order.specs.Lists.{one}
 use Rattle.order.proofs.Tests.{and-l, and-r}
 use Rattle.model.specs.declared.Entry.{Entry}
-use Rattle.model.specs.Cell.{CellEdit, to}
-use Rattle.model.specs.Layer.{Deed, add, strike, change, Edit, at, Layer, position, isAdd, isStrike}
-use Rattle.model.specs.Form.{sound, zeros}
-use Rattle.model.specs.Raw.{ADD, STRIKE, entryAt, entriesAt, deedOf, editOf, layerOf, numbersOf, flat}
+use Rattle.model.specs.Cell.{to}
+use Rattle.model.specs.Layer.{Deed, add, strike, change, Edit, at, Layer, isAdd, isStrike}
+use Rattle.model.specs.Form.{sound}
+use Rattle.model.specs.Raw.{ADD, STRIKE, entryAt, editOf, layerOf, numbersOf, flat}
 use Rattle.model.specs.Meaning.{keyOf}
-use Rattle.model.proofs.Raw.{within, layer-length, small}
-use Rattle.form.specs.Scan.{ofKind}
+use Rattle.model.proofs.Raw.{within, layer-length}
 use Rattle.form.proofs.Laws.{vals-length}
 use Rattle.form.proofs.ByKind.{add-kind, strike-kind}
 use Rattle.form.proofs.Accepted.{Accepted}
@@ -41,7 +40,7 @@ use Rattle.combine.specs.Walk.{Put, Sound, Run, entriesLeft, lefts, Rest
 use Rattle.combine.proofs.Weaving.{outcome}
 use Rattle.combine.proofs.Entries.{numbers-placed, patched-length}
 use Rattle.combine.proofs.Buffer.{front-on}
-use Rattle.combine.proofs.Placing.{flat-cons, flat-nil}
+use Rattle.combine.proofs.Placing.{flat-cons}
 use Rattle.combine.proofs.Left.{
   mul-split,
   left-step,

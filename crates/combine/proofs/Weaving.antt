@@ -3,7 +3,7 @@
 -- Assumes nothing.
 use mathlib.Core.Path.{_≡_, refl, sym, ap, subst, _∙_}
 use mathlib.Core.Logic.{_⊎_, inl, inr}
-use mathlib.Core.Bool.{Bool, true, false, cond, _&&_, _||_, true≢false}
+use mathlib.Core.Bool.{Bool, true, false, cond, true≢false}
 use mathlib.Core.List.{
   List,
   [],
@@ -18,7 +18,7 @@ use Prim.Native.Nat.{ℕ, zero, suc, _+_, _-_, _≤_, _<_}
 use native.Mathlib.Omega.{arith}
 use lib.ListN.{length, getD, drop, length-drop}
 use lib.Dec.{ltb, eqb}
-use borrow.Author.Tests.{ltb-true, ltb-false, eqb-true, eqb-false, eq-eqb, ne-eqb, lt-ltb, le-ltb}
+use borrow.Author.Tests.{ltb-true, ltb-false, eqb-true, eqb-false, eq-eqb, ne-eqb, lt-ltb}
 use Rattle.order.specs.Lists.{one, count}
 use Rattle.order.proofs.Tests.{tests, one-lt, one-ge}
 use Rattle.order.proofs.Counts.{count-zero}
@@ -32,7 +32,7 @@ use Rattle.model.proofs.Cell.{put-key}
 use Rattle.model.proofs.Joined.{addsRow, joined}
 use Rattle.model.proofs.Meaning.{meaning-mem}
 use Rattle.combine.specs.declared.weave.Step.{Step}
-use Rattle.combine.specs.declared.weave.Step.the-variants.{Lower, Upper, UpperHere, Drop, Vanish, Patch}
+use Rattle.combine.specs.declared.weave.Step.the-variants.{Lower, Upper, UpperHere, Drop}
 use Rattle.combine.specs.Woven.{
   deed,
   meet,

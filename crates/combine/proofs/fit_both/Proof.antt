@@ -3,11 +3,11 @@
 -- Assumes nothing.
 use borrow.Author.Tests.{not-true, not-false}
 use native.Mathlib.Omega.{arith}
-use mathlib.Core.Path.{_≡_, refl, sym, ap, _∙_}
+use mathlib.Core.Path.{_≡_, sym, ap, _∙_}
 use mathlib.Core.Bool.{true}
 use mathlib.Core.List.{List}
-use Prim.Native.Nat.{ℕ, _+_, _≤_}
-use lib.ListN.{length, take, drop, length-append}
+use Prim.Native.Nat.{ℕ, _≤_}
+use lib.ListN.{length, take, length-append}
 use lib.Seq.{length-take-le}
 use Rattle.order.specs.Lists.{ascending}
 use Rattle.model.specs.declared.Answer.{Answer}
@@ -15,7 +15,6 @@ use Rattle.model.specs.Raw.{layerOf, flat}
 use Rattle.model.specs.Fit.{fitPlace}
 use Rattle.model.specs.Read.{keysAfter}
 use Rattle.model.specs.Calls.{combinedLayer, written}
-use Rattle.combine.specs.Rows.{Fits}
 use Rattle.combine.proofs.Joining.{upper-form}
 use Rattle.combine.proofs.Answering.{
   keys-refused,

@@ -1,7 +1,7 @@
 -- `combine::weave::finish` meets its contract: a run is copied, and the rest is written behind it.
 -- Assumes nothing.
 use native.Mathlib.Omega.{arith}
-use Prim.Native.Nat.{_+_, _*_, _-_, _≤_}
+use Prim.Native.Nat.{_+_, _*_, _≤_}
 use Rattle.combine.proofs.Finishing.{lower-at, upper-at, part-room, uppers, both-put}
 use borrow.Author.Needs.{needs}
 use Rattle.combine.proofs.weave.finish.Statement.{statement}

@@ -1,7 +1,6 @@
 -- `combine::weave::next_step` meets its contract: the keys are compared first, then the kinds.
 -- Assumes nothing.
-use mathlib.Core.Path.{_∙_, sym}
-use lib.ListN.{getD}
+use mathlib.Core.Path.{_∙_}
 use Rattle.model.specs.Raw.{entryAt, editOf}
 use Rattle.combine.proofs.Entries.{meet-kinds, step-lower, step-upper, step-meet}
 use borrow.Author.Needs.{needs}

@@ -1,7 +1,6 @@
 -- `combine::weave::patch` meets its contract: the invariant says what is left to do is what the rest of the entries
 -- asks of the row.
 -- Assumes nothing.
-use borrow.Author.Needs.{needs}
 use native.Mathlib.Omega.{arith}
 use Prim.Native.Nat.{_+_, _-_, _≤_, _<_}
 use lib.ListN.{length, getD}

@@ -4,8 +4,7 @@
 -- Assumes nothing.
 use borrow.Author.Needs.{needs}
 use native.Mathlib.Omega.{arith}
-use mathlib.Core.Path.{_≡_, sym, _∙_}
-use mathlib.Core.Bool.{true, _&&_}
+use mathlib.Core.Path.{sym, _∙_}
 use Prim.Native.Nat.{_+_, _*_, _-_, _≤_, _<_}
 use lib.ListN.{length, getD}
 use lib.Dec.{ltb}
@@ -245,7 +244,7 @@ shared-slice-read-rebase : tie.Need-shared-slice-read-rebase Inv-loop μ-loop
 shared-slice-read-rebase c = omega (arith, upper-here (c .before .before .before .before))
 
 rebase-requires : tie.Need-rebase-requires Inv-loop μ-loop
-rebase-requires c κs = let t = c .before .before .before .before in (low-here t, counts t .4)
+rebase-requires c κs = let t = c .before .before .before .before in (low-here t, omega (arith, counts t))
 
 put-entry-requires-2 : tie.Need-put-entry-requires-2 Inv-loop μ-loop
 put-entry-requires-2 c κs = let t = c .before .before .before .before .before .before in (upper-here t, room-here t)
