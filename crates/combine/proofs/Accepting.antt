@@ -1,20 +1,18 @@
 -- What an accepted combination has passed, and that its layer, as it lies in the slice, passes the fit check again.
 -- Assumes nothing.
-use mathlib.Core.Path.{_≡_, refl, sym, ap, subst, _∙_}
-use mathlib.Core.Bool.{Bool, true, false, not, cond, _&&_, _||_}
-use mathlib.Core.List.{List, [], _∷_, _++_, map, List·Memᴰ as Mem, List·Memᴰ·not-nil as not-nil}
+use mathlib.Core.Path.{_≡_, refl, _∙_}
+use mathlib.Core.Bool.{Bool, true, false, cond, _&&_}
+use mathlib.Core.List.{List, [], _∷_, map, List·Memᴰ as Mem, List·Memᴰ·not-nil as not-nil}
 use Prim.Native.Nat.{ℕ, _+_, _*_, _≤_}
 use native.Mathlib.Omega.{arith}
 use lib.ListN.{length}
-use lib.Dec.{leb, ltb, eqb}
+use lib.Dec.{leb, ltb}
 use borrow.Author.Tests.{ltb-false, le-ltb, le-leb, eqb-true, not-false}
 use Rattle.order.specs.Lists.{ascending}
 use Rattle.order.proofs.Tests.{and-l, and-r, and-of, or-false}
 use Rattle.order.proofs.Members.{mem-map}
-use Rattle.order.proofs.Pairs.{AllPairs, Unbroken, of-unbroken}
-use Rattle.model.specs.declared.Refusal.{Refusal}
+use Rattle.order.proofs.Pairs.{AllPairs, of-unbroken}
 use Rattle.model.specs.declared.Entry.{Entry}
-use Rattle.model.specs.declared.Answer.{Answer}
 use Rattle.model.specs.declared.Answer.the-variants.{Done, Refused}
 use Rattle.model.specs.Limits.{mostColumns, mostEntries, mostRows}
 use Rattle.model.specs.Layer.{Edit, Layer, rowsAfter}
@@ -22,11 +20,23 @@ use Rattle.model.specs.Raw.{entriesOf, editOf, layerOf, room}
 use Rattle.model.specs.Form.{argsOk, zeros, sound, follows, formPlace}
 use Rattle.model.specs.Fit.{fitPlace, fits}
 use Rattle.model.specs.Read.{keysAfter}
-use Rattle.model.specs.Refusals.{Test, refuse, refusal, firstMet, badArgs, badForm, badKeys, badFit, noRoom, tooManyRows, breaksForm}
+use Rattle.model.specs.Refusals.{
+  Test,
+  refuse,
+  refusal,
+  firstMet,
+  badArgs,
+  badForm,
+  badKeys,
+  badFit,
+  noRoom,
+  tooManyRows,
+  breaksForm,
+}
 use Rattle.model.specs.Calls.{formAnswer, fitAnswer, combineAnswer, combinedLayer}
 use Rattle.model.proofs.Raw.{layer-length, entries-length}
 use Rattle.form.specs.InForm.{InForm}
-use Rattle.combine.specs.Rows.{Forms, Fits}
+use Rattle.combine.specs.Rows.{Fits}
 use Rattle.combine.proofs.Answering.{other-rows}
 
 -- no test is met
@@ -101,17 +111,21 @@ module _ (c : ℕ) (K : List ℕ) (mR : ℕ) (rawR : List ℕ) (mW : ℕ) (rawW 
               rising = not-false _ rising;
               lower = omega (arith, ltb-false (fitPlace K R) (length R) lower-fit, layer-length c mR rawR);
               mid = refl;
-              upper = omega (arith, ltb-false (fitPlace (keysAfter K R) W) (length W) upper-fit, layer-length c mW rawW);
+              upper = omega (arith, ltb-false (fitPlace (keysAfter K R) W) (length W) upper-fit, layer-length c
+                  mW rawW);
             };
             size = size;
             room-left = omega (arith, ltb-false (room c len) (length M) enough, size);
           }
 
 -- A layer in a slice that is sound, in order, with its zeros, and fits, is accepted by the fit check.
-module _ (c m : ℕ) (xs K : List ℕ) (some : 1 ≤ c) (few : c ≤ 8) (base : length K ≤ 4096) (entries : m ≤ 512) (room : m * (c + 2) ≤ length xs)
+module _ (c m : ℕ) (xs K : List ℕ) (some : 1 ≤ c) (few : c ≤ 8) (base : length K ≤ 4096) (entries : m ≤ 512)
+    (room : m * (c + 2) ≤ length xs)
     (zeroed : (e : Entry) → Mem e (entriesOf c m xs) → zeros e ≡ true)
-    (each : (e : Edit) → Mem e (layerOf c m xs) → sound c (length K) e ≡ true) (pairs : AllPairs follows (layerOf c m xs))
-    (rows : rowsAfter (length K) (layerOf c m xs) ≤ 4096) (rising : ascending K ≡ true) (fit : fits K (layerOf c m xs) ≡ true) where
+    (each : (e : Edit) → Mem e (layerOf c m xs) → sound c (length K) e ≡ true)
+        (pairs : AllPairs follows (layerOf c m xs))
+    (rows : rowsAfter (length K) (layerOf c m xs) ≤ 4096) (rising : ascending K ≡ true)
+        (fit : fits K (layerOf c m xs) ≡ true) where
   args-pass : argsOk c (length K) m (length xs) ≡ true
   unfolding argsOk
   args-pass =
@@ -122,16 +136,19 @@ module _ (c m : ℕ) (xs K : List ℕ) (some : 1 ≤ c) (few : c ≤ 8) (base : 
       (and-of (leb m mostEntries) d (le-leb m mostEntries entries) (le-leb (m * (c + 2)) (length xs) room))))
 
   -- pairs of edits are pairs of entries
-  entry-pairs : (es : List Entry) → AllPairs follows (map editOf es) → AllPairs (λ d e. follows (editOf d) (editOf e)) es
+  entry-pairs : (es : List Entry) → AllPairs follows (map editOf es)
+      → AllPairs (λ d e. follows (editOf d) (editOf e)) es
   entry-pairs [] p = tt
   entry-pairs (e ∷ es) p = (λ d m. p .0 (editOf d) (mem-map editOf es d m), entry-pairs es (p .1))
 
   place : formPlace c (length K) (entriesOf c m xs) ≡ m
   unfolding formPlace layerOf
   place =
-      of-unbroken (λ e. zeros e && sound c (length K) (editOf e)) (λ d e. follows (editOf d) (editOf e)) [] (entriesOf c m xs)
+      of-unbroken (λ e. zeros e && sound c (length K) (editOf e)) (λ d e. follows (editOf d) (editOf e)) []
+          (entriesOf c m xs)
       (record {
-        each = λ e n. and-of (zeros e) (sound c (length K) (editOf e)) (zeroed e n) (each (editOf e) (mem-map editOf (entriesOf c m xs) e n));
+        each = λ e n. and-of (zeros e) (sound c (length K) (editOf e)) (zeroed e n)
+            (each (editOf e) (mem-map editOf (entriesOf c m xs) e n));
         past = λ d e n k. absurd (not-nil n);
         pairs = entry-pairs (entriesOf c m xs) pairs;
       }) ∙ entries-length c m 0 xs

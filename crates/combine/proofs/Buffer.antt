@@ -1,10 +1,10 @@
 -- A buffer filled piece by piece from the front: what a written entry, a patched row and a run leave there.
 -- Assumes nothing.
 use mathlib.Core.Path.{_≡_, refl, sym, ap, _∙_}
-use mathlib.Core.List.{List, [], _∷_, _++_, append-assoc, append-nil}
-use Prim.Native.Nat.{ℕ, suc, _+_, _-_, _≤_, _<_}
+use mathlib.Core.List.{List, [], _∷_, _++_, append-assoc}
+use Prim.Native.Nat.{ℕ, suc, _+_, _-_, _≤_}
 use native.Mathlib.Omega.{arith}
-use lib.ListN.{length, getD, set, take, drop, length-append, length-set, take-append-drop}
+use lib.ListN.{length, getD, set, take, drop, length-append, length-set}
 use lib.Seq.{
   paste,
   length-paste,
@@ -25,14 +25,16 @@ use Rattle.combine.specs.Walk.{Put}
 use Rattle.combine.proofs.Entries.{entry-run}
 
 -- a run pasted
-pub put-paste : (ys old new : List ℕ) (o : ℕ) → o + length ys ≤ length old → new ≡ paste old o ys (length ys) → Put ys old o new
+pub put-paste : (ys old new : List ℕ) (o : ℕ) → o + length ys ≤ length old → new ≡ paste old o ys (length ys)
+    → Put ys old o new
 put-paste ys old new o h e = record {
   size = ap length e ∙ length-paste old o ys (length ys) h (omega arith);
   front = rw (e, take-paste old o ys (length ys) (omega arith) (omega arith), take-length ys);
 }
 
 -- the first number set anew
-pub put-first : (x p : ℕ) (ys old new : List ℕ) (o : ℕ) → o + suc (length ys) ≤ length old → new ≡ paste old o (x ∷ ys) (suc (length ys))
+pub put-first : (x p : ℕ) (ys old new : List ℕ) (o : ℕ) → o + suc (length ys) ≤ length old
+    → new ≡ paste old o (x ∷ ys) (suc (length ys))
     → Put (p ∷ ys) old o (set new o p)
 put-first x p ys old new o h e =
     let l : length (take o old) ≡ o = length-take-le o old (omega arith) in
@@ -42,12 +44,14 @@ put-first x p ys old new o h e =
     let r : set new o p ≡ (take o old ++ (p ∷ ys)) ++ rest = q ∙ sym (append-assoc (take o old) (p ∷ ys) rest) in
     record {
       size = length-set new o p ∙ (ap length e ∙ length-paste old o (x ∷ ys) (suc (length ys)) h (omega arith));
-      front = rw (r) (take-at (take o old ++ (p ∷ ys)) rest (o + suc (length ys)) (omega (arith, length-append (take o old) (p ∷ ys))));
+      front = rw (r) (take-at (take o old ++ (p ∷ ys)) rest (o + suc (length ys))
+          (omega (arith, length-append (take o old) (p ∷ ys))));
     }
 
 -- an entry written at another position
 pub put-entry : (c p from o : ℕ) (xs old new : List ℕ) → from + (c + 2) ≤ length xs → o + (c + 2) ≤ length old
-    → new ≡ paste old o (take (from + (c + 2) - from) (drop from xs)) (length (take (from + (c + 2) - from) (drop from xs)))
+    → new ≡ paste old o (take (from + (c + 2) - from) (drop from xs))
+        (length (take (from + (c + 2) - from) (drop from xs)))
     → Put (p ∷ getD xs (from + 1) 0 ∷ take c (drop (from + 2) xs)) old o (set new o p)
 put-entry c p from o xs old new h k e =
     let ys = getD xs (from + 1) 0 ∷ take c (drop (from + 2) xs) in
@@ -60,10 +64,12 @@ put-entry c p from o xs old new h k e =
 -- the whole is what stands in front, a piece, and the rest: the piece is written
 pub front-on : (whole ys rest old new : List ℕ) (o : ℕ) → whole ≡ take o old ++ (ys ++ rest) → Put ys old o new
     → whole ≡ take (o + length ys) new ++ rest
-front-on whole ys rest old new o e w = e ∙ (sym (append-assoc (take o old) ys rest) ∙ ap (λ (t : List ℕ). t ++ rest) (sym (w .front)))
+front-on whole ys rest old new o e w = e ∙ (sym (append-assoc (take o old) ys rest)
+    ∙ ap (λ (t : List ℕ). t ++ rest) (sym (w .front)))
 
 -- two pieces, one behind the other
-pub put-both : (ys zs old mid new : List ℕ) (o : ℕ) → Put ys old o mid → Put zs mid (o + length ys) new → Put (ys ++ zs) old o new
+pub put-both : (ys zs old mid new : List ℕ) (o : ℕ) → Put ys old o mid → Put zs mid (o + length ys) new
+    → Put (ys ++ zs) old o new
 put-both ys zs old mid new o v w =
     let n : o + length (ys ++ zs) ≡ o + length ys + length zs = omega (arith, length-append ys zs) in
     record {

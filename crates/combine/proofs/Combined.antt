@@ -1,19 +1,20 @@
--- The walk along two fitting layers is the combination: both are sorted by key, stand where the keys say, and mean the same for every key.
+-- The walk along two fitting layers is the combination: both are sorted by key, stand where the keys say, and mean
+-- the same for every key.
 -- Assumes nothing.
 use mathlib.Core.Path.{_≡_, refl, sym, ap, subst, _∙_}
-use mathlib.Core.Logic.{_⊎_, inl, inr}
+use mathlib.Core.Logic.{inl, inr}
 use mathlib.Core.Bool.{true, false, true≢false}
 use mathlib.Core.List.{List, [], _∷_, map, List·Memᴰ as Mem}
-use Prim.Native.Nat.{ℕ, _+_, _≤_}
+use Prim.Native.Nat.{ℕ, _+_}
 use native.Mathlib.Omega.{arith}
 use lib.ListN.{length, getD}
 use lib.Dec.{ltb}
 use borrow.Author.Tests.{le-leb}
 use Rattle.order.specs.Lists.{one, count, ascending}
 use Rattle.order.proofs.Counts.{count-same}
-use Rattle.order.proofs.Ascending.{AscFrom, At, below, at-mem, at-count, asc-of, asc-same}
+use Rattle.order.proofs.Ascending.{AscFrom, below, at-mem, at-count, asc-of, asc-same}
 use Rattle.model.specs.Row.{Row, Table, key, keys}
-use Rattle.model.specs.Layer.{Deed, add, strike, change, Edit, at, Layer, rowsAfter, position, struck, changed}
+use Rattle.model.specs.Layer.{add, strike, change, Edit, at, Layer, rowsAfter, position, struck}
 use Rattle.model.specs.Form.{sound, inOrder}
 use Rattle.model.specs.Fit.{fits, keysBelow}
 use Rattle.model.specs.Read.{read, keysAfter}
@@ -42,7 +43,8 @@ module _ (T : Table) (R W : Layer) (a : AscFrom key 0 T) (FR : Fit T R) (FW : Fi
 
   -- the counting identity
   counted : (f : Edit) → Mem f W
-      → position f + 0 + count (strikeBelow (keyOf N f)) R ≡ keysBelow (keyOf N f) K + 0 + count (addBelow (keyOf N f)) R
+      → position f + 0 + count (strikeBelow (keyOf N f)) R ≡ keysBelow (keyOf N f) K + 0 + count
+          (addBelow (keyOf N f)) R
   counted f m = omega (
     arith,
     key-position (read T R) W rising FW f m,
@@ -77,13 +79,15 @@ module _ (T : Table) (R W : Layer) (a : AscFrom key 0 T) (FR : Fit T R) (FW : Fi
             ap (λ (i : ℕ). getD K i 0) pos ∙ (key-of n ∙ kr),
             λ s x.
                 let w = FR .strikes s k x in
-                true≢false (sym (ap (λ (i : ℕ). struck i R) (asc-same key T a n (w .1) (kr ∙ sym (w .2))) ∙ struck-of s k R x) ∙ u),
+                true≢false (sym (ap (λ (i : ℕ). struck i R) (asc-same key T a n (w .1) (kr ∙ sym (w .2)))
+                    ∙ struck-of s k R x) ∙ u),
           )
 
   upper-stands : (f : Edit) → Mem f W → addsRow (deed f) ≡ false → Stands K R (keyOf N f)
   upper-stands (at s (add r)) m n = absurd (true≢false n)
   upper-stands (at s (strike k)) m n = let w = FW .strikes s k m in stands (w .0) k (at-mem (w .1)) (w .2)
-  upper-stands (at s (change j e)) m n = let w = FW .changes s j e m in stands (w .0) (getD N s 0) (at-mem (w .1)) (sym (key-of (w .1)))
+  upper-stands (at s (change j e)) m n = let w = FW .changes s j e m in stands (w .0) (getD N s 0) (at-mem (w .1))
+      (sym (key-of (w .1)))
 
   begin : Meets K N 0 0 R W
   begin = record {
@@ -124,15 +128,18 @@ pub record Combines (c : ℕ) (K : List ℕ) (R W : Layer) : Type 0 where
   pub rows : rowsAfter (length K) (combine K R W) ≡ rowsAfter (rowsAfter (length K) R) W
   pub each : (e : Edit) → Mem e (combine K R W) → sound c (length K) e ≡ true
 
-over-keys : (c : ℕ) (T : Table) (R W : Layer) → ascending (keys T) ≡ true → inOrder c (length (keys T)) R ≡ true → fits (keys T) R ≡ true
-    → inOrder c (rowsAfter (length (keys T)) R) W ≡ true → fits (keysAfter (keys T) R) W ≡ true → Combines c (keys T) R W
+over-keys : (c : ℕ) (T : Table) (R W : Layer) → ascending (keys T) ≡ true → inOrder c (length (keys T)) R ≡ true
+    → fits (keys T) R ≡ true
+    → inOrder c (rowsAfter (length (keys T)) R) W ≡ true → fits (keysAfter (keys T) R) W ≡ true
+        → Combines c (keys T) R W
 over-keys c T R W h fr gr fw gw =
     let n = keys-length T in
     let a = asc-of key T h in
     let GR = good-of c T R a (ap (λ (i : ℕ). inOrder c i R) (sym n) ∙ fr) gr in
     let GW = upper-good c T R W a GR (ap (λ (i : ℕ). inOrder c (rowsAfter i R) W) (sym n) ∙ fw) gw in
     record {
-      same = ap (λ (N : List ℕ). wovenLayer (keys T) N R W) (keys-read T R (key-kept T R (GR .fit))) ∙ woven-good c T R W a GR GW;
+      same = ap (λ (N : List ℕ). wovenLayer (keys T) N R W) (keys-read T R (key-kept T R (GR .fit)))
+          ∙ woven-good c T R W a GR GW;
       rows = ap (λ (i : ℕ). rowsAfter i (combine (keys T) R W)) n
           ∙ (combine-rows c T R W a GR GW ∙ ap (λ (i : ℕ). rowsAfter (rowsAfter i R) W) (sym n));
       each = λ e m. ap (λ (i : ℕ). sound c i e) n ∙ combine-good c T R W a GR GW .each e m;

@@ -13,9 +13,9 @@ use mathlib.Core.List.{
   List·Memᴰ·tail as next,
   List·Memᴰ·not-nil as not-nil,
 }
-use Prim.Native.Nat.{ℕ, _≤_, _<_}
+use Prim.Native.Nat.{ℕ, _<_}
 use native.Mathlib.Omega.{arith}
-use lib.Dec.{ltb, eqb}
+use lib.Dec.{ltb}
 use borrow.Author.Tests.{ltb-true, lt-ltb, le-ltb, eq-eqb, ne-eqb}
 use Rattle.order.specs.Lists.{any, filter, insert, inTurn}
 use Rattle.order.proofs.Tests.{tests}
@@ -56,14 +56,16 @@ none-after k [] h = refl
 none-after k (d ∷ ds) h = absurd (true≢false (sym (h d (here refl))))
 
 -- strikes neither change nor add
-strikes-quiet : (r : Row) (ws ds : List Deed) → After (add r) ws → (inTurn changeTo ws ds ≡ ds) × (inTurn addTo ws ds ≡ ds)
+strikes-quiet : (r : Row) (ws ds : List Deed) → After (add r) ws
+    → (inTurn changeTo ws ds ≡ ds) × (inTurn addTo ws ds ≡ ds)
 strikes-quiet r [] ds h = (refl, refl)
 strikes-quiet r (add q ∷ ws) ds h = absurd (true≢false (sym (h (add q) (here refl))))
 strikes-quiet r (strike k ∷ ws) ds h = strikes-quiet r ws ds (λ x m. h x (next m))
 strikes-quiet r (change j e ∷ ws) ds h = absurd (true≢false (sym (h (change j e) (here refl))))
 
 -- changes neither strike nor add
-changes-quiet : (j : ℕ) (e : CellEdit) (ws ds : List Deed) → After (change j e) ws → (inTurn strikeTo ws ds ≡ ds) × (inTurn addTo ws ds ≡ ds)
+changes-quiet : (j : ℕ) (e : CellEdit) (ws ds : List Deed) → After (change j e) ws
+    → (inTurn strikeTo ws ds ≡ ds) × (inTurn addTo ws ds ≡ ds)
 changes-quiet j e [] ds h = (refl, refl)
 changes-quiet j e (add q ∷ ws) ds h = absurd (true≢false (sym (h (add q) (here refl))))
 changes-quiet j e (strike k ∷ ws) ds h = absurd (true≢false (sym (h (strike k) (here refl))))
@@ -98,7 +100,8 @@ no-add d ds h = any-none addsRow ds (λ x m. one d x (h x m))
     one d (change j f) e = refl
 
 -- an added row goes to the front of deeds for its key
-add-first : (r : Row) (ds : List Deed) → ((q : Row) → Mem (add q) ds → key q ≡ key r) → insert deedBefore (add r) ds ≡ add r ∷ ds
+add-first : (r : Row) (ds : List Deed) → ((q : Row) → Mem (add q) ds → key q ≡ key r)
+    → insert deedBefore (add r) ds ≡ add r ∷ ds
 add-first r [] h = refl
 add-first r (add q ∷ ds) h = rw (le-ltb (key q) (key r) (omega (arith, h q (here refl))))
 add-first r (strike k ∷ ds) h = refl
@@ -156,7 +159,8 @@ past-change i j g e ds h n = rw (n, ne-eqb j i (λ z. omega arith), lt-ltb i j h
 change-no-add : (j : ℕ) (e : CellEdit) (ds : List Deed) → NoAdd ds → NoAdd (changeDeeds j e ds)
 change-no-add j e ds n = rw (n) (any-none addsRow _ each)
   where
-    each : (x : Deed) → Mem x (insert deedBefore (change j e) (filter (λ d. not (changesColumn j d)) ds)) → addsRow x ≡ false
+    each : (x : Deed) → Mem x (insert deedBefore (change j e) (filter (λ d. not (changesColumn j d)) ds))
+        → addsRow x ≡ false
     each x m = go (insert-mem deedBefore (change j e) (filter (λ d. not (changesColumn j d)) ds) x m)
       where
         go : (x ≡ change j e) ⊎ Mem x (filter (λ d. not (changesColumn j d)) ds) → addsRow x ≡ false
@@ -174,13 +178,15 @@ past-changes i g (change j e ∷ ws) ds h n =
     ∙ past-changes i g ws (changeDeeds j e ds) (λ x m. h x (next m)) (change-no-add j e ds n)
 
 -- what may stand after a change may stand after one of an earlier column
-pub then-later : (i j : ℕ) (g e : CellEdit) → i < j → (y : Deed) → then (change j e) y ≡ true → then (change i g) y ≡ true
+pub then-later : (i j : ℕ) (g e : CellEdit) → i < j → (y : Deed) → then (change j e) y ≡ true
+    → then (change i g) y ≡ true
 then-later i j g e l (add q) z = z
 then-later i j g e l (strike k) z = z
 then-later i j g e l (change a b) z = lt-ltb i a (omega (arith, ltb-true j a z))
 
 -- Lower: a change of an earlier column stands in front
-pub joined-earlier : (i j : ℕ) (g e : CellEdit) (ds ws : List Deed) → i < j → After (change i g) ds → After (change j e) ws
+pub joined-earlier : (i j : ℕ) (g e : CellEdit) (ds ws : List Deed) → i < j → After (change i g) ds
+    → After (change j e) ws
     → joined (change i g ∷ ds) (change j e ∷ ws) ≡ change i g ∷ joined ds (change j e ∷ ws)
 joined-earlier i j g e ds ws l h n =
     let x = no-add (change i g) ds h in
@@ -190,7 +196,8 @@ joined-earlier i j g e ds ws l h n =
     ∙ ap (λ (t : List Deed). change i g ∷ t) (sym (only-changes j e ws ds n))
 
 -- Drop: a change of the same column is replaced
-pub joined-replaced : (i j : ℕ) (g e : CellEdit) (ds ws : List Deed) → i ≡ j → After (change i g) ds → After (change j e) ws
+pub joined-replaced : (i j : ℕ) (g e : CellEdit) (ds ws : List Deed) → i ≡ j → After (change i g) ds
+    → After (change j e) ws
     → joined (change i g ∷ ds) (change j e ∷ ws) ≡ joined ds (change j e ∷ ws)
 joined-replaced i j g e ds ws l h n =
     only-changes j e ws (change i g ∷ ds) n
@@ -209,7 +216,8 @@ joined-later j e ds ws h n =
     x : NoAdd ds
     x = no-add (change j e) ds h
 
-    other : (y : Deed) → then (change j e) y ≡ true → (not (changesColumn j y) ≡ true) × (deedBefore y (change j e) ≡ false)
+    other : (y : Deed) → then (change j e) y ≡ true → (not (changesColumn j y) ≡ true)
+        × (deedBefore y (change j e) ≡ false)
     other (add q) z = absurd (true≢false (sym z))
     other (strike k) z = absurd (true≢false (sym z))
     other (change a b) z = (ap not (ne-eqb j a (λ w. omega tests)), le-ltb a j (omega tests))

@@ -1,26 +1,25 @@
--- Entries of a slice as edits: which step two of them ask for, which key one concerns, and the numbers of one at another position.
+-- Entries of a slice as edits: which step two of them ask for, which key one concerns, and the numbers of one at
+-- another position.
 -- Assumes nothing.
 use mathlib.Core.Path.{_≡_, refl, sym, ap, _∙_}
 use mathlib.Core.Bool.{Bool, true, false, not, cond, _&&_, _||_, true≢false}
-use mathlib.Core.List.{List, [], _∷_, _++_, map, List·Memᴰ as Mem, List·Memᴰ·head as here}
-use Prim.Native.Nat.{ℕ, suc, _+_, _*_, _-_, _≤_, _<_}
-use native.Mathlib.Numerals.{add-one}
+use mathlib.Core.List.{List, [], _∷_}
+use Prim.Native.Nat.{ℕ, suc, _+_, _≤_, _<_}
 use native.Mathlib.Omega.{arith}
 use lib.ListN.{length, getD, set, take, drop}
 use lib.Seq.{drop-cons}
 use lib.Dec.{leb, ltb, eqb}
-use borrow.Author.Tests.{ltb-true, lt-ltb, le-ltb, eqb-true, eqb-false}
-use Rattle.order.proofs.Tests.{tests, and-l, and-r, or-false}
+use borrow.Author.Tests.{ltb-true, lt-ltb, le-ltb}
+use Rattle.order.proofs.Tests.{tests, and-l, or-false}
 use Rattle.model.specs.declared.Entry.{Entry}
 use Rattle.model.specs.Row.{key}
 use Rattle.model.specs.Cell.{to, put}
-use Rattle.model.specs.Layer.{Deed, add, strike, change, Edit, at, Layer}
+use Rattle.model.specs.Layer.{add, strike, change, Edit, at, Layer}
 use Rattle.model.specs.Form.{sound, zeros}
-use Rattle.model.specs.Raw.{ADD, STRIKE, entryAt, deedOf, editOf, numbersOf}
+use Rattle.model.specs.Raw.{ADD, STRIKE, deedOf, editOf, numbersOf}
 use Rattle.model.specs.Meaning.{keyOf}
 use Rattle.model.proofs.Cell.{put-length}
 use Rattle.form.proofs.Flat.{entry-numbers}
-use Rattle.combine.specs.declared.weave.Step.{Step}
 use Rattle.combine.specs.declared.weave.Step.the-variants.{Lower, Upper, UpperHere, Drop, Vanish, Patch}
 use Rattle.combine.specs.Woven.{deed, meet, meetKinds, stepOf, placed, changesAhead, patched}
 
@@ -65,14 +64,16 @@ unfolding key
 key-named K e h = go (eqb (e .kind) ADD) (eqb (e .kind) STRIKE) h
   where
     go : (a b : Bool) → a || b ≡ true
-        → keyOf K (at (e .pos) (cond a (add (e .vals)) (cond b (strike (getD (e .vals) 0 0)) (change (e .kind) (to (getD (e .vals) 0 0))))))
+        → keyOf K (at (e .pos) (cond a (add (e .vals)) (cond b (strike (getD (e .vals) 0 0))
+            (change (e .kind) (to (getD (e .vals) 0 0))))))
         ≡ getD (e .vals) 0 0
     go true b z = refl
     go false true z = refl
     go false false z = absurd (true≢false (sym z))
 
 -- else it is a change
-pub change-entry : (e : Entry) → named (e .kind) ≡ false → editOf e ≡ at (e .pos) (change (e .kind) (to (getD (e .vals) 0 0)))
+pub change-entry : (e : Entry) → named (e .kind) ≡ false → editOf e
+    ≡ at (e .pos) (change (e .kind) (to (getD (e .vals) 0 0)))
 change-entry e h = let w = or-false (eqb (e .kind) ADD) (eqb (e .kind) STRIKE) h in rw (w .0, w .1)
 
 pub key-placed : (K : List ℕ) (e : Entry) → named (e .kind) ≡ false → keyOf K (editOf e) ≡ getD K (e .pos) 0
@@ -94,7 +95,8 @@ pub entry-run : (c from : ℕ) (xs : List ℕ) → from + (c + 2) ≤ length xs
 entry-run c from xs h =
     let two : c + 2 ≡ suc (suc c) = omega arith in
     let a : drop from xs ≡ getD xs from 0 ∷ drop (suc from) xs = drop-cons xs from 0 (omega arith) in
-    let b : drop (suc from) xs ≡ getD xs (suc from) 0 ∷ drop (suc (suc from)) xs = drop-cons xs (suc from) 0 (omega arith) in
+    let b : drop (suc from) xs ≡ getD xs (suc from) 0 ∷ drop (suc (suc from)) xs =
+        drop-cons xs (suc from) 0 (omega arith) in
     let f : from + 1 ≡ suc from = omega arith in
     let g : from + 2 ≡ suc (suc from) = omega arith in
     rw (two, a, b, f, g)
@@ -106,14 +108,17 @@ module _ (p : ℕ) (e : Entry) (U : Layer) where
   run-stops h = go (eqb (e .kind) ADD) (eqb (e .kind) STRIKE) (eqb (e .pos) p) refl h
     where
       go : (a b t : Bool) → eqb (e .pos) p ≡ t → not t || (a || b) ≡ true
-          → (changesAhead p (at (e .pos) (cond a (add (e .vals)) (cond b (strike (getD (e .vals) 0 0)) (change (e .kind) (to (getD (e .vals) 0 0))))) ∷ U) ≡ 0)
-          × ((row : List ℕ) → patched p (at (e .pos) (cond a (add (e .vals)) (cond b (strike (getD (e .vals) 0 0)) (change (e .kind) (to (getD (e .vals) 0 0))))) ∷ U) row ≡ row)
+          → (changesAhead p (at (e .pos) (cond a (add (e .vals))
+              (cond b (strike (getD (e .vals) 0 0)) (change (e .kind) (to (getD (e .vals) 0 0))))) ∷ U) ≡ 0)
+          × ((row : List ℕ) → patched p (at (e .pos) (cond a (add (e .vals))
+              (cond b (strike (getD (e .vals) 0 0)) (change (e .kind) (to (getD (e .vals) 0 0))))) ∷ U) row ≡ row)
       go true b t f z = (refl, λ r. refl)
       go false true t f z = (refl, λ r. refl)
       go false false true f z = absurd (true≢false (sym z))
       go false false false f z = (rw (f), λ r. rw (f))
 
-  pub run-goes : not (eqb (e .pos) p) || named (e .kind) ≡ false → (changesAhead p (editOf e ∷ U) ≡ suc (changesAhead p U))
+  pub run-goes : not (eqb (e .pos) p) || named (e .kind) ≡ false
+      → (changesAhead p (editOf e ∷ U) ≡ suc (changesAhead p U))
       × ((row : List ℕ) → patched p (editOf e ∷ U) row ≡ patched p U (set row (e .kind) (getD (e .vals) 0 0)))
   unfolding put
   run-goes h =
@@ -134,6 +139,7 @@ patched-length p (at s (add q) ∷ U) row = refl
 patched-length p (at s (strike k) ∷ U) row = refl
 patched-length p (at s (change j e) ∷ U) row = go (eqb s p) (patched-length p U (put row j e) ∙ put-length row j e)
   where
-    go : (t : Bool) → length (patched p U (put row j e)) ≡ length row → length (cond t (patched p U (put row j e)) row) ≡ length row
+    go : (t : Bool) → length (patched p U (put row j e)) ≡ length row
+        → length (cond t (patched p U (put row j e)) row) ≡ length row
     go true h = h
     go false h = refl

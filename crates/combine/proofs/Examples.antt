@@ -10,7 +10,7 @@ use lib.Dec.{ltb}
 use borrow.Author.Tests.{le-ltb}
 use Rattle.model.specs.declared.Answer.{Answer}
 use Rattle.model.specs.declared.Answer.the-variants.{Done}
-use Rattle.model.specs.Row.{Table, key, keys}
+use Rattle.model.specs.Row.{key, keys}
 use Rattle.model.specs.Cell.{put}
 use Rattle.model.specs.Layer.{Layer}
 use Rattle.model.specs.Raw.{entriesAt, layerOf, flat, room}
@@ -32,7 +32,8 @@ abbrev layerFrom : Layer → Layer → Layer
 layerFrom R W = combinedLayer 2 (keys four) (length R) (flat 2 R) (length W) (flat 2 W)
 
 abbrev Goes : Layer → Layer → Layer → Type 0
-Goes R W L = (length L ≤ 512) × ((len : ℕ) → ltb (room 2 len) (length L) ≡ false → answerOf R W len ≡ Done (length L)) × (layerFrom R W ≡ L)
+Goes R W L = (length L ≤ 512) × ((len : ℕ) → ltb (room 2 len) (length L) ≡ false → answerOf R W len ≡ Done (length L))
+    × (layerFrom R W ≡ L)
 
 -- a slice of so many numbers has room for the entries
 has-room : (m len : ℕ) → m ≤ 512 → m * 4 ≤ len → ltb (room 2 len) m ≡ false
@@ -65,7 +66,8 @@ each-of-call (refuses X Y place ∷ es) g = each-of-call es g
 each-of-call (combines R W L ∷ es) g = (combines-to R W L (g .0), each-of-call es (g .1))
 
 pub examples-of-call : EachOfCall examples
-unfolding examples combineAnswer argsOk breaksForm formPlace fitPlace layerOf entriesAt flat combine origins addRow strikeBase changeBase strikeRow changeRowNo key put
+unfolding examples combineAnswer argsOk breaksForm formPlace fitPlace layerOf entriesAt flat combine origins addRow
+    strikeBase changeBase strikeRow changeRowNo key put
 examples-of-call =
     each-of-call examples (
       (omega arith, λ len h. rw (h), refl),

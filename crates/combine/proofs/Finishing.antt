@@ -1,13 +1,12 @@
 -- What is left of both layers is written: the lower one's numbers as they lie, then the upper's entries.
 -- Assumes nothing.
-use mathlib.Core.Path.{_≡_, refl, sym, ap, subst, _∙_}
+use mathlib.Core.Path.{_≡_, sym, ap, subst, _∙_}
 use mathlib.Core.List.{List, _++_, map}
 use Prim.Native.Nat.{ℕ, _+_, _*_, _-_, _≤_}
 use native.Mathlib.Nat.{add-mul, mul-le-mul-right}
 use native.Mathlib.Omega.{arith}
 use lib.ListN.{length, take, drop, length-take, length-drop}
 use lib.Seq.{paste}
-use Rattle.model.specs.Layer.{Layer}
 use Rattle.model.specs.Raw.{flat}
 use Rattle.write.proofs.Layers.{flat-append}
 use Rattle.combine.specs.Woven.{rebased}
@@ -15,7 +14,8 @@ use Rattle.combine.specs.Walk.{Put, Uppers, lefts, Rest}
 use Rattle.combine.proofs.Buffer.{put-paste, put-both}
 use Rattle.combine.proofs.Left.{mul-split, left-numbers}
 
-module _ {c mR i : ℕ} {r : List ℕ} {mW j : ℕ} {w : List ℕ} {strikes o : ℕ} (out : List ℕ) (g : Rest c mR i r mW j w strikes o (length out)) where
+module _ {c mR i : ℕ} {r : List ℕ} {mW j : ℕ} {w : List ℕ} {strikes o : ℕ} (out : List ℕ)
+    (g : Rest c mR i r mW j w strikes o (length out)) where
   pub lower-at : i * (c + 2) ≤ mR * (c + 2)
   lower-at = mul-le-mul-right {m = i} {n = mR} (c + 2) (g .lower-upto)
 
@@ -56,5 +56,7 @@ module _ {c mR i : ℕ} {r : List ℕ} {mW j : ℕ} {w : List ℕ} {strikes o : 
   both-put adds mid new p e f put =
       let Z = map (rebased adds strikes) (lefts c mW j w) in
       let n = left-numbers c mR r i (g .lower-upto) (g .lower .room) (g .lower .some) (g .lower-zeroed) in
-      subst (λ (t : List ℕ). Put t out o new) (sym (flat-append c (lefts c mR i r) Z ∙ ap (λ (t : List ℕ). t ++ flat c Z) n))
-      (put-both part (flat c Z) out mid new o (put-paste part out mid o part-room e) (subst (λ (k : ℕ). Put (flat c Z) mid k new) f put))
+      subst (λ (t : List ℕ). Put t out o new) (sym (flat-append c (lefts c mR i r) Z
+          ∙ ap (λ (t : List ℕ). t ++ flat c Z) n))
+      (put-both part (flat c Z) out mid new o (put-paste part out mid o part-room e)
+          (subst (λ (k : ℕ). Put (flat c Z) mid k new) f put))

@@ -1,28 +1,25 @@
--- Two layers that fit are joined: what the walk needs, that it leaves the combination, and what the join answers and writes.
+-- Two layers that fit are joined: what the walk needs, that it leaves the combination, and what the join answers and
+-- writes.
 -- Assumes nothing.
-use mathlib.Core.Path.{_≡_, refl, sym, ap, subst, _∙_}
+use mathlib.Core.Path.{_≡_, sym, ap, subst, _∙_}
 use mathlib.Core.Bool.{true}
-use mathlib.Core.List.{List, [], _∷_, _++_}
-use Prim.Native.Nat.{ℕ, _+_, _*_, _/_, _≤_, _<_, min}
+use mathlib.Core.List.{List, [], _++_}
+use Prim.Native.Nat.{ℕ, _+_, _*_, _/_, _≤_, _<_}
 use native.Mathlib.Nat.{mul-le-mul, mul-le-mul-right, div-mul-le-self, zero-add}
 use native.Mathlib.Omega.{arith}
 use lib.ListN.{length, take, drop}
 use lib.Seq.{paste, take-length}
-use lib.Dec.{ltb, eqb}
 use borrow.Author.Tests.{eq-eqb, lt-ltb, le-ltb}
 use Rattle.order.proofs.Pairs.{broken-le}
-use Rattle.model.specs.declared.Answer.{Answer}
 use Rattle.model.specs.declared.Answer.the-variants.{Done, Refused}
-use Rattle.model.specs.Limits.{mostEntries, mostRows}
+use Rattle.model.specs.Limits.{mostRows}
 use Rattle.model.specs.Layer.{Layer, rowsAfter}
 use Rattle.model.specs.Raw.{layerOf, flat, room}
-use Rattle.model.specs.Form.{inOrder}
 use Rattle.model.specs.Fit.{suits, rises, fitPlace, fits}
 use Rattle.model.specs.Read.{keysAfter}
 use Rattle.model.specs.Redo.{combine}
 use Rattle.model.specs.Refusals.{refusal}
-use Rattle.model.specs.Calls.{formAnswer, combinedLayer, written}
-use Rattle.model.proofs.Raw.{layer-length}
+use Rattle.model.specs.Calls.{formAnswer}
 use Rattle.form.specs.InForm.{InForm}
 use Rattle.form.proofs.Accepted.{Accepted, accepted}
 use Rattle.read.proofs.Ready.{ready}
@@ -46,7 +43,8 @@ room-fits c len m h =
     (omega arith, omega (arith, mul-le-mul-right {m = m} {n = len / (c + 2)} (c + 2) q, div-mul-le-self len (c + 2)))
 
 -- as many keys as rows
-pub mid-rows : {c : ℕ} {K : List ℕ} {mR : ℕ} {rawR : List ℕ} {mW : ℕ} {rawW : List ℕ} → Forms c K mR rawR mW rawW → (N : List ℕ)
+pub mid-rows : {c : ℕ} {K : List ℕ} {mR : ℕ} {rawR : List ℕ} {mW : ℕ} {rawW : List ℕ} → Forms c K mR rawR mW rawW
+    → (N : List ℕ)
     → N ≡ keysAfter K (layerOf c mR rawR) → rowsAfter (length K) (layerOf c mR rawR) ≡ length N
 mid-rows {c} {K} {mR} {rawR} f N e =
     let R = layerOf c mR rawR in
@@ -54,7 +52,8 @@ mid-rows {c} {K} {mR} {rawR} f N e =
     sym (ap length e ∙ rows-shown 0 K R (ready c (length K) 0 R (a .each) (a .pairs)))
 
 -- so the upper layer is in form over them
-pub upper-form : {c : ℕ} {K : List ℕ} {mR : ℕ} {rawR : List ℕ} {mW : ℕ} {rawW : List ℕ} → Forms c K mR rawR mW rawW → (N : List ℕ)
+pub upper-form : {c : ℕ} {K : List ℕ} {mR : ℕ} {rawR : List ℕ} {mW : ℕ} {rawW : List ℕ} → Forms c K mR rawR mW rawW
+    → (N : List ℕ)
     → N ≡ keysAfter K (layerOf c mR rawR) → InForm c (length N) mW rawW
 upper-form {c} {K} {mR} {rawR} {mW} {rawW} f N e =
     subst (λ (n : ℕ). formAnswer c n mW rawW ≡ Done (rowsAfter n (layerOf c mW rawW))) (mid-rows f N e) (f .upper)
@@ -111,7 +110,8 @@ module _ {c : ℕ} {K N : List ℕ} {mR : ℕ} {rawR : List ℕ} {mW : ℕ} {raw
 
     pub numbers : take (m * (c + 2)) new ≡ flat c M
     numbers =
-        let e : m * (c + 2) ≡ length (flat c (wovenLayer K N R W)) = size ∙ ap (λ (L : Layer). length (flat c L)) (sym same) in
+        let e : m * (c + 2) ≡ length (flat c (wovenLayer K N R W)) =
+            size ∙ ap (λ (L : Layer). length (flat c L)) (sym same) in
         ap (λ (k : ℕ). take k new) e ∙ (g .front ∙ ap (flat c) same)
 
     -- refusal 9
@@ -122,7 +122,8 @@ module _ {c : ℕ} {K N : List ℕ} {mR : ℕ} {rawR : List ℕ} {mW : ℕ} {raw
     -- refusal 10 is not met
     pub enough : (len k : ℕ) → k ≡ room c len → m ≤ k → Done m ≡ joinAnswer c K mR rawR mW rawW len
     unfolding joinAnswer
-    enough len k e h = rw (le-ltb (room c len) (length M) (omega (arith, entries)), le-ltb mostRows (rowsAfter (length K) M) rows-few, entries)
+    enough len k e h = rw (le-ltb (room c len) (length M) (omega (arith, entries)), le-ltb mostRows
+        (rowsAfter (length K) M) rows-few, entries)
 
     pub there : (len k : ℕ) → k ≡ room c len → m ≤ k → m * (c + 2) ≤ len
     there len k e h = (room-fits c len m (omega arith)) .1

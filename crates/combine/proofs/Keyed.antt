@@ -1,8 +1,9 @@
--- A fitting layer is sorted by key, and for one key by its deeds; and it is the only list so sorted with its positions and meaning.
+-- A fitting layer is sorted by key, and for one key by its deeds; and it is the only list so sorted with its
+-- positions and meaning.
 -- Assumes nothing.
 use mathlib.Core.Path.{_≡_, refl, sym, ap, subst, _∙_}
 use mathlib.Core.Logic.{_⊎_, inl, inr}
-use mathlib.Core.Bool.{Bool, true, false, cond, _&&_, _||_, true≢false}
+use mathlib.Core.Bool.{Bool, true, false, _&&_, _||_, true≢false}
 use mathlib.Core.List.{
   List,
   [],
@@ -18,16 +19,14 @@ use native.Mathlib.Omega.{arith}
 use lib.ListN.{getD}
 use lib.Dec.{ltb, eqb}
 use borrow.Author.Tests.{ltb-true, ltb-false, eqb-true, eqb-false, eq-eqb, ne-eqb}
-use Rattle.order.specs.Lists.{count, gather}
 use Rattle.order.proofs.Tests.{tests, lex-cases, lex-lt, lex-eq}
 use Rattle.order.proofs.Pairs.{AllPairs, pairs-weaker}
-use Rattle.order.proofs.Ascending.{AscFrom, At, below, at-mem, at-count, count-strict, count-rise}
+use Rattle.order.proofs.Ascending.{AscFrom, At, at-mem, at-count, count-strict, count-rise}
 use Rattle.model.specs.Row.{Row, Table, key, keys}
-use Rattle.model.specs.Cell.{CellEdit}
 use Rattle.model.specs.Layer.{Deed, add, strike, change, Edit, at, Layer, position}
 use Rattle.model.specs.Fit.{keysBelow}
 use Rattle.model.specs.Edits.{deedBefore, before}
-use Rattle.model.specs.Meaning.{keyOf, concerning, meaning}
+use Rattle.model.specs.Meaning.{keyOf, meaning}
 use Rattle.model.proofs.Edits.{before-cases}
 use Rattle.model.proofs.Fit.{Fit, key-of, below-keys}
 use Rattle.model.proofs.Meaning.{meaning-mem, position-of, changed-kept}
@@ -55,7 +54,8 @@ module _ (T : Table) (L : Layer) (a : AscFrom key 0 T) (F : Fit T L) where
       ))
       go false e = ltb-false (key r) (key q) e
 
-  one-place : (s : ℕ) (d e : Deed) → Mem (at s d) L → Mem (at s e) L → deedBefore d e ≡ true → keyed K (at s d) (at s e) ≡ true
+  one-place : (s : ℕ) (d e : Deed) → Mem (at s d) L → Mem (at s e) L → deedBefore d e ≡ true
+      → keyed K (at s d) (at s e) ≡ true
   one-place s (add q) (add r) m n h = lex-lt (key q) (key r) false (ltb-true (key q) (key r) h)
   one-place s (add q) (strike k) m n h =
       let w = F .strikes s k n in go (ltb (key q) k) refl (omega (arith, add-upto s q (w .0) m (w .1), w .2))
@@ -82,7 +82,8 @@ module _ (T : Table) (L : Layer) (a : AscFrom key 0 T) (F : Fit T L) where
         where
           go : (p < s) ⊎ ((p ≡ s) × (deedBefore d e ≡ true)) → keyed K (at p d) (at s e) ≡ true
           go (inl l) = lex-lt (keyOf K (at p d)) (keyOf K (at s e)) (then d e)
-              (count-rise key T (keyOf K (at p d)) (keyOf K (at s e)) (omega (arith, position-of T L a F p d m, position-of T L a F s e n)))
+              (count-rise key T (keyOf K (at p d)) (keyOf K (at s e))
+                  (omega (arith, position-of T L a F p d m, position-of T L a F s e n)))
           go (inr w) =
               subst (λ (x : ℕ). keyed K (at x d) (at s e) ≡ true) (sym (w .0))
               (one-place s d e (subst (λ (x : ℕ). Mem (at x d) L) (w .0) m) n (w .1))
@@ -120,11 +121,13 @@ module _ (K : List ℕ) where
       → then (deed e) (deed f) ≡ true
   then-on e L o f m h = go (lex-cases (keyOf K e) (keyOf K f) (then (deed e) (deed f)) (o .0 f m))
     where
-      go : (keyOf K e < keyOf K f) ⊎ ((keyOf K e ≡ keyOf K f) × (then (deed e) (deed f) ≡ true)) → then (deed e) (deed f) ≡ true
+      go : (keyOf K e < keyOf K f) ⊎ ((keyOf K e ≡ keyOf K f) × (then (deed e) (deed f) ≡ true))
+          → then (deed e) (deed f) ≡ true
       go (inl l) = absurd (omega arith)
       go (inr w) = w .1
 
-  pub deeds-on : (e : Edit) (L : Layer) → AllPairs (keyed K) (e ∷ L) → (k : ℕ) → keyOf K e ≡ k → After (deed e) (meaning K L k)
+  pub deeds-on : (e : Edit) (L : Layer) → AllPairs (keyed K) (e ∷ L) → (k : ℕ) → keyOf K e ≡ k
+      → After (deed e) (meaning K L k)
   deeds-on e L o k h x m =
       let w = meaning-mem K L k x m in then-on e L o (at (w .0) x) (w .1) (w .2 ∙ sym h)
 
@@ -146,7 +149,8 @@ module _ (K : List ℕ) where
   Sits L = (e : Edit) → Mem e L → position e ≡ keysBelow (keyOf K e) K
 
   -- two lists so sorted, with their positions, that mean the same for every key, are one
-  first-key : (e f : Edit) (L M : Layer) → KeysFrom (keyOf K f) M → ((k : ℕ) → meaning K (e ∷ L) k ≡ meaning K (f ∷ M) k)
+  first-key : (e f : Edit) (L M : Layer) → KeysFrom (keyOf K f) M
+      → ((k : ℕ) → meaning K (e ∷ L) k ≡ meaning K (f ∷ M) k)
       → keyOf K f ≤ keyOf K e
   first-key e f L M o same = go (ltb (keyOf K e) (keyOf K f)) refl
     where
@@ -154,25 +158,31 @@ module _ (K : List ℕ) where
       go false h = ltb-false (keyOf K e) (keyOf K f) h
       go true h =
           let l : keyOf K e < keyOf K f = ltb-true (keyOf K e) (keyOf K f) h in
-          let n : meaning K (f ∷ M) (keyOf K e) ≡ [] = meaning-none (f ∷ M) (keyOf K e) (λ x m g. omega (arith, on x m)) in
-          let p : deed e ∷ meaning K L (keyOf K e) ≡ [] = sym (meaning-here e L (keyOf K e) refl) ∙ (same (keyOf K e) ∙ n) in
+          let n : meaning K (f ∷ M) (keyOf K e) ≡ [] = meaning-none (f ∷ M) (keyOf K e)
+              (λ x m g. omega (arith, on x m)) in
+          let p : deed e ∷ meaning K L (keyOf K e) ≡ [] = sym (meaning-here e L (keyOf K e) refl)
+              ∙ (same (keyOf K e) ∙ n) in
           absurd (let z : _≡_ {A = ℕ} 0 1 = cc in omega arith)
         where
           on : (x : Edit) → Mem x (f ∷ M) → keyOf K f ≤ keyOf K x
           on x (here g) = omega (arith, ap (keyOf K) g)
           on x (next m) = keys-least (keyOf K f) M o x m
 
-  pub one-list : (b : ℕ) (L M : Layer) → KeysFrom b L → KeysFrom b M → Sits L → Sits M → ((k : ℕ) → meaning K L k ≡ meaning K M k) → L ≡ M
+  pub one-list : (b : ℕ) (L M : Layer) → KeysFrom b L → KeysFrom b M → Sits L → Sits M
+      → ((k : ℕ) → meaning K L k ≡ meaning K M k) → L ≡ M
   one-list b [] [] o p s t same = refl
   one-list b [] (f ∷ M) o p s t same =
-      let q : [] ≡ deed f ∷ meaning K M (keyOf K f) = sym (meaning-nil (keyOf K f)) ∙ (same (keyOf K f) ∙ meaning-here f M (keyOf K f) refl) in
+      let q : [] ≡ deed f ∷ meaning K M (keyOf K f) = sym (meaning-nil (keyOf K f))
+          ∙ (same (keyOf K f) ∙ meaning-here f M (keyOf K f) refl) in
       absurd (let z : _≡_ {A = ℕ} 0 1 = cc in omega arith)
   one-list b (e ∷ L) [] o p s t same =
-      let q : deed e ∷ meaning K L (keyOf K e) ≡ [] = sym (meaning-here e L (keyOf K e) refl) ∙ (same (keyOf K e) ∙ meaning-nil (keyOf K e)) in
+      let q : deed e ∷ meaning K L (keyOf K e) ≡ [] = sym (meaning-here e L (keyOf K e) refl)
+          ∙ (same (keyOf K e) ∙ meaning-nil (keyOf K e)) in
       absurd (let z : _≡_ {A = ℕ} 0 1 = cc in omega arith)
   one-list b (at s d ∷ L) (at p g ∷ M) oL oM sL sM same =
       heads (keyOf K (at s d)) refl
-      (omega (arith, first-key (at s d) (at p g) L M (oM .1) same, first-key (at p g) (at s d) M L (oL .1) (λ k. sym (same k))))
+      (omega (arith, first-key (at s d) (at p g) L M (oM .1) same, first-key (at p g) (at s d) M L (oL .1)
+          (λ k. sym (same k))))
       (λ k o q t. one-list k L M o q (λ e m. sL e (next m)) (λ e m. sM e (next m)) t)
     where
       heads : (k : ℕ) → keyOf K (at s d) ≡ k → keyOf K (at p g) ≡ k
@@ -182,7 +192,8 @@ module _ (K : List ℕ) where
           let q : d ∷ meaning K L k ≡ g ∷ meaning K M k =
           sym (meaning-here (at s d) L k h) ∙ (same k ∙ meaning-here (at p g) M k h′) in
           let dg : d ≡ g = cc in
-          let sp : s ≡ p = sL (at s d) (here refl) ∙ (ap (λ (l : ℕ). keysBelow l K) (h ∙ sym h′) ∙ sym (sM (at p g) (here refl))) in
+          let sp : s ≡ p = sL (at s d) (here refl) ∙ (ap (λ (l : ℕ). keysBelow l K) (h ∙ sym h′)
+              ∙ sym (sM (at p g) (here refl))) in
           let rest : L ≡ M =
           ih k (subst (λ (l : ℕ). KeysFrom l L) h (oL .1)) (subst (λ (l : ℕ). KeysFrom l M) h′ (oM .1)) tails in
           cc

@@ -1,4 +1,5 @@
--- The entries of a slice from number i on: one step, some steps, the end; what holds of all entries holds of them; their numbers.
+-- The entries of a slice from number i on: one step, some steps, the end; what holds of all entries holds of them;
+-- their numbers.
 -- Assumes nothing.
 use mathlib.Core.Path.{_≡_, refl, sym, ap, subst, _∙_}
 use mathlib.Core.Bool.{true}
@@ -18,7 +19,7 @@ use native.Mathlib.Omega.{arith}
 use lib.ListN.{length, take, drop, length-map}
 use Rattle.order.proofs.Members.{mem-map, map-mem}
 use Rattle.model.specs.declared.Entry.{Entry}
-use Rattle.model.specs.Layer.{Edit, Layer}
+use Rattle.model.specs.Layer.{Edit}
 use Rattle.model.specs.Form.{zeros}
 use Rattle.model.specs.Raw.{entryAt, entriesAt, entriesOf, editOf, layerOf, flat}
 use Rattle.model.proofs.Raw.{rest-step, rest-end, entries-add, entries-length, within}
@@ -32,7 +33,8 @@ mul-split i m w h = let e : i + (m - i) ≡ m = omega arith in sym (add-mul i (m
 module _ (c m : ℕ) (xs : List ℕ) where
   pub left-step : (i : ℕ) → i < m → lefts c m i xs ≡ editOf (entryAt c (i * (c + 2)) xs) ∷ lefts c m (i + 1) xs
   left-step i h =
-      let e : i * (c + 2) + (c + 2) ≡ (i + 1) * (c + 2) = omega (arith, suc-mul i (c + 2), add-mul i 1 (c + 2), suc-mul 0 (c + 2), zero-mul (c + 2)) in
+      let e : i * (c + 2) + (c + 2) ≡ (i + 1) * (c + 2) = omega
+          (arith, suc-mul i (c + 2), add-mul i 1 (c + 2), suc-mul 0 (c + 2), zero-mul (c + 2)) in
       ap (map editOf) (rest-step c m i (i * (c + 2)) xs h
       ∙ ap (λ (k : ℕ). entryAt c (i * (c + 2)) xs ∷ entriesAt c (m - (i + 1)) k xs) e)
 
@@ -51,7 +53,8 @@ module _ (c m : ℕ) (xs : List ℕ) where
   left-drop zero i h = ap (λ (n : ℕ). lefts c m n xs) (omega arith)
   left-drop (suc k) i h =
       let n : i + 1 + k ≡ i + suc k = omega arith in
-      ap (drop (suc k)) (left-step i (omega arith)) ∙ (left-drop k (i + 1) (omega arith) ∙ ap (λ (t : ℕ). lefts c m t xs) n)
+      ap (drop (suc k)) (left-step i (omega arith)) ∙ (left-drop k (i + 1) (omega arith)
+          ∙ ap (λ (t : ℕ). lefts c m t xs) n)
 
   pub left-in : (i : ℕ) → i ≤ m → (e : Entry) → Mem e (entriesLeft c m i xs) → Mem e (entriesOf c m xs)
   left-in i h e n =
@@ -62,7 +65,8 @@ module _ (c m : ℕ) (xs : List ℕ) where
       (append-right (entriesAt c i 0 xs) (subst (λ (t : ℕ). Mem e (entriesAt c (m - i) t xs)) (sym z) n)))
 
   pub left-first : (i : ℕ) → i < m → Mem (entryAt c (i * (c + 2)) xs) (entriesLeft c m i xs)
-  left-first i h = subst (λ (t : List Entry). Mem (entryAt c (i * (c + 2)) xs) t) (sym (rest-step c m i (i * (c + 2)) xs h)) (here refl)
+  left-first i h = subst (λ (t : List Entry). Mem (entryAt c (i * (c + 2)) xs) t)
+      (sym (rest-step c m i (i * (c + 2)) xs h)) (here refl)
 
   pub edit-in : (e : Entry) → Mem e (entriesOf c m xs) → Mem (editOf e) (layerOf c m xs)
   unfolding layerOf
@@ -77,7 +81,8 @@ module _ (c m : ℕ) (xs : List ℕ) where
   left-room i h r = omega (arith, within i m (c + 2) h)
 
   -- their numbers, as they lie in the slice
-  pub left-numbers : (i : ℕ) → i ≤ m → m * (c + 2) ≤ length xs → 1 ≤ c → ((e : Entry) → Mem e (entriesLeft c m i xs) → zeros e ≡ true)
+  pub left-numbers : (i : ℕ) → i ≤ m → m * (c + 2) ≤ length xs → 1 ≤ c
+      → ((e : Entry) → Mem e (entriesLeft c m i xs) → zeros e ≡ true)
       → flat c (lefts c m i xs) ≡ take (m * (c + 2) - i * (c + 2)) (drop (i * (c + 2)) xs)
   unfolding flat
   left-numbers i h r o z =

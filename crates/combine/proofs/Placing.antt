@@ -2,11 +2,21 @@
 -- Assumes nothing.
 use mathlib.Core.Path.{_≡_, refl, sym, ap, subst, _∙_}
 use mathlib.Core.Bool.{true}
-use mathlib.Core.List.{List, [], _∷_, _++_, map, append-nil, List·Memᴰ as Mem, List·Memᴰ·head as here, List·Memᴰ·tail as next}
+use mathlib.Core.List.{
+  List,
+  [],
+  _∷_,
+  _++_,
+  map,
+  append-nil,
+  List·Memᴰ as Mem,
+  List·Memᴰ·head as here,
+  List·Memᴰ·tail as next,
+}
 use Prim.Native.Nat.{ℕ, _+_, _*_, _-_, _≤_, _<_}
 use native.Mathlib.Nat.{sub-zero}
 use native.Mathlib.Omega.{arith}
-use lib.ListN.{length, getD, take, drop, length-append}
+use lib.ListN.{length, getD, take, length-append}
 use lib.Seq.{length-take-le}
 use Rattle.model.specs.declared.Entry.{Entry}
 use Rattle.model.specs.Layer.{Edit, at, Layer}
@@ -30,7 +40,8 @@ unfolding flat
 flat-nil c = refl
 
 -- i entries are written, up to `end`; the entry from `from` is next
-pub record Placing (c m start : ℕ) (w : List ℕ) (adds strikes : ℕ) (out₀ : List ℕ) (o i from end : ℕ) (out : List ℕ) : Type 0 where
+pub record Placing (c m start : ℕ) (w : List ℕ) (adds strikes : ℕ) (out₀ : List ℕ) (o i from end : ℕ)
+    (out : List ℕ) : Type 0 where
   pub some : 1 ≤ c
   pub few : strikes ≤ 512
   pub upto : i ≤ m
@@ -43,7 +54,8 @@ pub record Placing (c m start : ℕ) (w : List ℕ) (adds strikes : ℕ) (out₀
   pub front : take o out₀ ++ flat c (map (rebased adds strikes) (map editOf (entriesAt c m start w)))
       ≡ take end out ++ flat c (map (rebased adds strikes) (map editOf (entriesAt c (m - i) from w)))
 
-pub set-out : {c m start : ℕ} {w : List ℕ} {adds strikes : ℕ} {out : List ℕ} {o : ℕ} → Uppers c m start w strikes o (length out)
+pub set-out : {c m start : ℕ} {w : List ℕ} {adds strikes : ℕ} {out : List ℕ} {o : ℕ}
+    → Uppers c m start w strikes o (length out)
     → Placing c m start w adds strikes out o 0 start o out
 set-out u = record {
   some = u .some;
@@ -64,7 +76,8 @@ module _ {c m start : ℕ} {w : List ℕ} {adds strikes : ℕ} {out₀ : List �
   pub ended : m ≤ i → Put (flat c (map (rebased adds strikes) (map editOf (entriesAt c m start w)))) out₀ o out
   ended h =
       let none : flat c (map (rebased adds strikes) (map editOf (entriesAt c (m - i) from w))) ≡ [] =
-      ap (λ (t : List Entry). flat c (map (rebased adds strikes) (map editOf t))) (rest-end c m i from w h) ∙ flat-nil c in
+      ap (λ (t : List Entry). flat c (map (rebased adds strikes) (map editOf t))) (rest-end c m i from w h)
+          ∙ flat-nil c in
       let F = flat c (map (rebased adds strikes) (map editOf (entriesAt c m start w))) in
       let all : take o out₀ ++ F ≡ take end out =
       g .front ∙ (ap (λ (t : List ℕ). take end out ++ t) none ∙ append-nil (take end out)) in
@@ -103,7 +116,8 @@ module _ {c m start : ℕ} {w : List ℕ} {adds strikes : ℕ} {out₀ : List �
         let lv = vals-length c from w near in
         let ys = p ∷ E .kind ∷ E .vals in
         let nums : numbersOf c (rebased adds strikes (editOf E)) ≡ ys =
-        ap (λ (q : ℕ). numbersOf c (at q (deedOf (E .kind) (E .vals)))) (sym e) ∙ numbers-placed c p E lv (g .some) (g .zeroed E first) in
+        ap (λ (q : ℕ). numbersOf c (at q (deedOf (E .kind) (E .vals)))) (sym e)
+            ∙ numbers-placed c p E lv (g .some) (g .zeroed E first) in
         let rest : flat c (map (rebased adds strikes) (map editOf (entriesAt c (m - i) from w)))
         ≡ ys ++ flat c (map (rebased adds strikes) U) =
         ap (λ (t : List Entry). flat c (map (rebased adds strikes) (map editOf t))) step
@@ -121,6 +135,7 @@ module _ {c m start : ℕ} {w : List ℕ} {adds strikes : ℕ} {out₀ : List �
           zeroed = λ x m. g .zeroed x (subst (λ (t : List Entry). Mem x t) (sym step) (next m));
           below = λ x m. g .below x (subst (λ (t : List Entry). Mem x t) (sym step) (next m));
           front = front-on (take o out₀ ++ flat c (map (rebased adds strikes) (map editOf (entriesAt c m start w)))) ys
-              (flat c (map (rebased adds strikes) U)) out new end (g .front ∙ ap (λ (t : List ℕ). take end out ++ t) rest) put
+              (flat c (map (rebased adds strikes) U)) out new end
+                  (g .front ∙ ap (λ (t : List ℕ). take end out ++ t) rest) put
               ∙ ap (λ (k : ℕ). take k new ++ flat c (map (rebased adds strikes) U)) n;
         }

@@ -1,8 +1,9 @@
--- The walk along two layers leaves, for each key, the deeds of both joined, each at its key's position, by key: so it is the combination.
+-- The walk along two layers leaves, for each key, the deeds of both joined, each at its key's position, by key: so it
+-- is the combination.
 -- Assumes nothing.
 use mathlib.Core.Path.{_≡_, refl, sym, ap, subst, _∙_}
 use mathlib.Core.Logic.{_⊎_, inl, inr}
-use mathlib.Core.Bool.{Bool, true, false, cond, _&&_, _||_, true≢false}
+use mathlib.Core.Bool.{Bool, true, false, cond, true≢false}
 use mathlib.Core.List.{
   List,
   [],
@@ -17,7 +18,7 @@ use Prim.Native.Nat.{ℕ, zero, suc, _+_, _-_, _≤_, _<_}
 use native.Mathlib.Omega.{arith}
 use lib.ListN.{length, getD, drop, length-drop}
 use lib.Dec.{ltb, eqb}
-use borrow.Author.Tests.{ltb-true, ltb-false, eqb-true, eqb-false, eq-eqb, ne-eqb, lt-ltb, le-ltb}
+use borrow.Author.Tests.{ltb-true, ltb-false, eqb-true, eqb-false, eq-eqb, ne-eqb, lt-ltb}
 use Rattle.order.specs.Lists.{one, count}
 use Rattle.order.proofs.Tests.{tests, one-lt, one-ge}
 use Rattle.order.proofs.Counts.{count-zero}
@@ -31,8 +32,19 @@ use Rattle.model.proofs.Cell.{put-key}
 use Rattle.model.proofs.Joined.{addsRow, joined}
 use Rattle.model.proofs.Meaning.{meaning-mem}
 use Rattle.combine.specs.declared.weave.Step.{Step}
-use Rattle.combine.specs.declared.weave.Step.the-variants.{Lower, Upper, UpperHere, Drop, Vanish, Patch}
-use Rattle.combine.specs.Woven.{deed, meet, stepOf, placed, rebased, changesAhead, patched, patchedAdd, choose, woven}
+use Rattle.combine.specs.declared.weave.Step.the-variants.{Lower, Upper, UpperHere, Drop}
+use Rattle.combine.specs.Woven.{
+  deed,
+  meet,
+  stepOf,
+  placed,
+  rebased,
+  changesAhead,
+  patched,
+  patchedAdd,
+  choose,
+  woven,
+}
 use Rattle.combine.proofs.Deeds.{
   then,
   After,
@@ -85,7 +97,8 @@ pub record Meets (K N : List ℕ) (a s : ℕ) (R W : Layer) : Type 0 where
   pub lower-sits : Sits K R
   pub upper-sits : Sits N W
   pub counted : (f : Edit) → Mem f W
-      → position f + s + count (strikeBelow (keyOf N f)) R ≡ keysBelow (keyOf N f) K + a + count (addBelow (keyOf N f)) R
+      → position f + s + count (strikeBelow (keyOf N f)) R ≡ keysBelow (keyOf N f) K + a + count
+          (addBelow (keyOf N f)) R
   pub shown : (f : Edit) → Mem f W → addsRow (deed f) ≡ false → Stands K R (keyOf N f)
   pub columns : (p j : ℕ) (e : CellEdit) → Mem (at p (change j e)) W → 1 ≤ j
 
@@ -170,7 +183,8 @@ module _ {K N : List ℕ} {R W R′ W′ M : Layer} (x : Edit) (k : ℕ) where
       sits e (here h) = ap position h ∙ (hp ∙ ap (λ (l : ℕ). keysBelow l K) (sym hk ∙ sym (ap (keyOf K) h)))
       sits e (next m) = w .sits e m
 
-      rises : (b : ℕ) → ((e : Edit) → Mem e R → b ≤ keyOf K e) → ((f : Edit) → Mem f W → b ≤ keyOf N f) → KeysFrom K b (x ∷ M)
+      rises : (b : ℕ) → ((e : Edit) → Mem e R → b ≤ keyOf K e) → ((f : Edit) → Mem f W → b ≤ keyOf N f)
+          → KeysFrom K b (x ∷ M)
       rises b hr hw = (omega (arith, lb b hr hw), subst (λ (l : ℕ). KeysFrom K l M) (sym hk) (w .rises k lr lw))
 
 -- edits go, and nothing is written
@@ -197,7 +211,8 @@ lower-step {K} {N} {a} {s} {e} {R} {W} {M} g l w =
     none : meaning N W (keyOf K e) ≡ []
     none = meaning-none N W (keyOf K e) (λ f m h. omega (arith, l f m))
 
-    join : joined (meaning K (e ∷ R) (keyOf K e)) (meaning N W (keyOf K e)) ≡ deed e ∷ joined (meaning K R (keyOf K e)) (meaning N W (keyOf K e))
+    join : joined (meaning K (e ∷ R) (keyOf K e)) (meaning N W (keyOf K e))
+        ≡ deed e ∷ joined (meaning K R (keyOf K e)) (meaning N W (keyOf K e))
     join = rw (none) (joined-none (meaning K (e ∷ R) (keyOf K e)) ∙ (meaning-here K e R (keyOf K e) refl
         ∙ ap (λ (t : List Deed). deed e ∷ t) (sym (joined-none (meaning K R (keyOf K e))))))
 
@@ -206,7 +221,8 @@ module _ {K N : List ℕ} {a s : ℕ} {R W : Layer} {f : Edit} (g : Meets K N a 
     (l : (e : Edit) → Mem e R → keyOf N f < keyOf K e) where
   base-position : (position f + s) - a ≡ keysBelow (keyOf N f) K
   base-position =
-      omega (arith, g .counted f (here refl), count-zero (strikeBelow (keyOf N f)) R strikes, count-zero (addBelow (keyOf N f)) R adds)
+      omega (arith, g .counted f (here refl), count-zero (strikeBelow (keyOf N f)) R strikes, count-zero
+          (addBelow (keyOf N f)) R adds)
     where
       strikes : (e : Edit) → Mem e R → one (strikeBelow (keyOf N f) e) ≡ 0
       strikes (at p (add r)) m = refl
@@ -226,7 +242,8 @@ module _ {K N : List ℕ} {a s : ℕ} {R W : Layer} {f : Edit} (g : Meets K N a 
       go : Stands K R (keyOf N f) → getD K ((p + s) - a) 0 ≡ getD N p 0
       go (inl (q, r, m, k)) = absurd (omega (arith, l (at q (add r)) m))
       go (inr w) =
-          ap (λ (i : ℕ). getD K i 0) (ap (λ (x : Edit). (position x + s) - a) h ∙ base-position) ∙ (w .0 ∙ ap (keyOf N) (sym h))
+          ap (λ (i : ℕ). getD K i 0) (ap (λ (x : Edit). (position x + s) - a) h ∙ base-position)
+              ∙ (w .0 ∙ ap (keyOf N) (sym h))
 
   upper-step : {M : Layer} → Wove K N R W M → Wove K N R (f ∷ W) (rebased a s f ∷ M)
   upper-step w =
@@ -261,7 +278,8 @@ uppers {K} {N} [] g = record {
 uppers (f ∷ W) g = upper-step g (λ e m. absurd (not-nil m)) (uppers W (fewer W g (g .upper .1) (λ x m. next m)))
 
 -- both next edits concern one key
-module _ {K N : List ℕ} {a s : ℕ} {e f : Edit} {R W : Layer} (g : Meets K N a s (e ∷ R) (f ∷ W)) (same : keyOf K e ≡ keyOf N f) where
+module _ {K N : List ℕ} {a s : ℕ} {e f : Edit} {R W : Layer} (g : Meets K N a s (e ∷ R) (f ∷ W))
+    (same : keyOf K e ≡ keyOf N f) where
   abbrev k : ℕ
   k = keyOf K e
 
@@ -297,7 +315,8 @@ module _ {K N : List ℕ} {a s : ℕ} {e f : Edit} {R W : Layer} (g : Meets K N 
   uppers-on x m = omega (arith, keys-on N f W (g .upper) x m)
 
   -- UpperHere
-  here-step : {M : Layer} → keyOf K (placed (position e) f) ≡ k → joined (deed e ∷ ds) (deed f ∷ ws) ≡ deed f ∷ joined (deed e ∷ ds) ws
+  here-step : {M : Layer} → keyOf K (placed (position e) f) ≡ k
+      → joined (deed e ∷ ds) (deed f ∷ ws) ≡ deed f ∷ joined (deed e ∷ ds) ws
       → Wove K N (e ∷ R) W M → Wove K N (e ∷ R) (f ∷ W) (placed (position e) f ∷ M)
   here-step hk j w =
       emit (placed (position e) f) k hk (at-e f ∙ g .lower-sits e (here refl)) w
@@ -336,22 +355,27 @@ module _ {K N : List ℕ} {a s : ℕ} {e f : Edit} {R W : Layer} (g : Meets K N 
       join : (l : ℕ) → joined (meaning K (e ∷ R) l) (meaning N (f ∷ W) l) ≡ joined (meaning K R l) (meaning N (f ∷ W) l)
       join l = go (eqb k l) refl
         where
-          go : (t : Bool) → eqb k l ≡ t → joined (meaning K (e ∷ R) l) (meaning N (f ∷ W) l) ≡ joined (meaning K R l) (meaning N (f ∷ W) l)
+          go : (t : Bool) → eqb k l ≡ t → joined (meaning K (e ∷ R) l) (meaning N (f ∷ W) l)
+              ≡ joined (meaning K R l) (meaning N (f ∷ W) l)
           go true h =
-              subst (λ (i : ℕ). joined (meaning K (e ∷ R) i) (meaning N (f ∷ W) i) ≡ joined (meaning K R i) (meaning N (f ∷ W) i))
+              subst (λ (i : ℕ). joined (meaning K (e ∷ R) i) (meaning N (f ∷ W) i)
+                  ≡ joined (meaning K R i) (meaning N (f ∷ W) i))
               (eqb-true k l h) (rw (uppers-here, lowers) j)
           go false h = ap (λ (t : List Deed). joined t (meaning N (f ∷ W) l)) (other-lower l (eqb-false k l h))
 
   -- Vanish
-  vanish-step : {M : Layer} → joined (deed e ∷ ds) (deed f ∷ ws) ≡ joined ds ws → Wove K N R W M → Wove K N (e ∷ R) (f ∷ W) M
+  vanish-step : {M : Layer} → joined (deed e ∷ ds) (deed f ∷ ws) ≡ joined ds ws → Wove K N R W M
+      → Wove K N (e ∷ R) (f ∷ W) M
   vanish-step j w = skip w join (λ x m. next m) (λ x m. next m)
     where
       join : (l : ℕ) → joined (meaning K (e ∷ R) l) (meaning N (f ∷ W) l) ≡ joined (meaning K R l) (meaning N W l)
       join l = go (eqb k l) refl
         where
-          go : (t : Bool) → eqb k l ≡ t → joined (meaning K (e ∷ R) l) (meaning N (f ∷ W) l) ≡ joined (meaning K R l) (meaning N W l)
+          go : (t : Bool) → eqb k l ≡ t → joined (meaning K (e ∷ R) l) (meaning N (f ∷ W) l)
+              ≡ joined (meaning K R l) (meaning N W l)
           go true h =
-              subst (λ (i : ℕ). joined (meaning K (e ∷ R) i) (meaning N (f ∷ W) i) ≡ joined (meaning K R i) (meaning N W i))
+              subst (λ (i : ℕ). joined (meaning K (e ∷ R) i) (meaning N (f ∷ W) i)
+                  ≡ joined (meaning K R i) (meaning N W i))
               (eqb-true k l h) (rw (uppers-here, lowers) j)
           go false h =
               let p = other-lower l (eqb-false k l h) in
@@ -363,7 +387,8 @@ module _ {K N : List ℕ} {a s : ℕ} {e f : Edit} {R W : Layer} (g : Meets K N 
   never-struck l h n = go (g .shown f (here refl) n)
     where
       other : (p : ℕ) (r : Row) → Mem (at p (add r)) R → key r ≡ keyOf N f → ⊥
-      other p r m q = true≢false (sym (ap (λ (d : Deed). then d (add r)) (sym h) ∙ then-on K e R (g .lower) (at p (add r)) m (q ∙ sym same)))
+      other p r m q = true≢false (sym (ap (λ (d : Deed). then d (add r)) (sym h)
+          ∙ then-on K e R (g .lower) (at p (add r)) m (q ∙ sym same)))
 
       struck-key : (x : Edit) → deed x ≡ strike l → keyOf K x ≡ l
       struck-key (at p (add r)) z = absurd (let o : _≡_ {A = ℕ} 0 1 = cc in omega arith)
@@ -413,13 +438,15 @@ ran-none N k p ds q U hc hp o l = record {
 
 run : (N : List ℕ) (k p : ℕ) (ds : List Deed) (q : Row) (U : Layer) → After (add q) ds → AllPairs (keyed N) U
     → ((f : Edit) → Mem f U → k ≤ keyOf N f) → getD N p 0 ≡ k
-    → ((s : ℕ) (d : Deed) → Mem (at s d) U → keyOf N (at s d) ≡ k → (s ≡ p) × (addsRow d ≡ false) × ((l : ℕ) → d ≡ strike l → ⊥))
+    → ((s : ℕ) (d : Deed) → Mem (at s d) U → keyOf N (at s d) ≡ k
+        → (s ≡ p) × (addsRow d ≡ false) × ((l : ℕ) → d ≡ strike l → ⊥))
     → ((s j : ℕ) (e : CellEdit) → Mem (at s (change j e)) U → 1 ≤ j)
     → Ran N k p ds q U
 run N k p ds q [] h o l np only col = ran-none N k p ds q [] refl refl o (λ f m. absurd (not-nil m))
 run N k p ds q (at s d ∷ U) h o l np only col =
     go d refl (eqb (keyOf N (at s d)) k) refl
-    (λ r. run N k p ds r U (after-row q r ds h) (o .1) (λ f m. l f (next m)) np (λ t x m. only t x (next m)) (λ t j x m. col t j x (next m)))
+    (λ r. run N k p ds r U (after-row q r ds h) (o .1) (λ f m. l f (next m)) np (λ t x m. only t x (next m))
+        (λ t j x m. col t j x (next m)))
   where
     past : (keyOf N (at s d) ≡ k → ⊥) → (f : Edit) → Mem f (at s d ∷ U) → k < keyOf N f
     past n f (here e) = omega (arith, ap (keyOf N) e, l (at s d) (here refl))
@@ -429,10 +456,12 @@ run N k p ds q (at s d ∷ U) h o l np only col =
         → Ran N k p ds q (at s (change j e) ∷ U)
     taken j e de kk sp w = record {
       joins = rw (here-first)
-          (joined-patch q j e ds (meaning N U k) h (subst (λ (x : Deed). After x (meaning N U k)) de (deeds-on N (at s d) U o k kk))
+          (joined-patch q j e ds (meaning N U k) h (subst (λ (x : Deed). After x (meaning N U k)) de
+              (deeds-on N (at s d) U o k kk))
           ∙ (w .joins ∙ ap (λ (r : Row). add r ∷ ds) (sym row)));
       keeps = ap key row ∙ (w .keeps ∙ put-key q j e (col s j e (here {x = at s d} (ap (at s) (sym de)))));
-      others = λ i n. meaning-other N (at s (change j e)) U i (λ z. n (sym first ∙ z)) ∙ (w .others i n ∙ ap (λ (t : Layer). meaning N t i) (sym rest));
+      others = λ i n. meaning-other N (at s (change j e)) U i (λ z. n (sym first ∙ z))
+          ∙ (w .others i n ∙ ap (λ (t : Layer). meaning N t i) (sym rest));
       inside = λ f m. let v = w .inside f (subst (λ (t : Layer). Mem f t) rest m) in (next (v .0), v .1);
       sorted = subst (AllPairs (keyed N)) (sym rest) (w .sorted);
     }
@@ -449,7 +478,8 @@ run N k p ds q (at s d ∷ U) h o l np only col =
         rest : drop (changesAhead p (at s (change j e) ∷ U)) (at s (change j e) ∷ U) ≡ drop (changesAhead p U) U
         rest = rw (eq-eqb s p sp)
 
-    go : (x : Deed) → d ≡ x → (t : Bool) → eqb (keyOf N (at s d)) k ≡ t → ((r : Row) → Ran N k p ds r U) → Ran N k p ds q (at s x ∷ U)
+    go : (x : Deed) → d ≡ x → (t : Bool) → eqb (keyOf N (at s d)) k ≡ t → ((r : Row) → Ran N k p ds r U)
+        → Ran N k p ds q (at s x ∷ U)
     go (add r) dx true e ih =
         absurd (true≢false (ap addsRow (sym dx) ∙ (only s d (here refl) (eqb-true (keyOf N (at s d)) k e)) .1))
     go (strike j) dx true e ih = absurd ((only s d (here refl) (eqb-true (keyOf N (at s d)) k e)) .2 j dx)
@@ -458,13 +488,16 @@ run N k p ds q (at s d ∷ U) h o l np only col =
         taken j x dx kk ((only s d (here refl) kk) .0) (ih (put q j x))
     go (add r) dx false e ih = ran-none N k p ds q (at s (add r) ∷ U) refl refl
         (subst (λ (y : Deed). AllPairs (keyed N) (at s y ∷ U)) dx o)
-        (subst (λ (y : Deed). (f : Edit) → Mem f (at s y ∷ U) → k < keyOf N f) dx (past (eqb-false (keyOf N (at s d)) k e)))
+        (subst (λ (y : Deed). (f : Edit) → Mem f (at s y ∷ U) → k < keyOf N f) dx
+            (past (eqb-false (keyOf N (at s d)) k e)))
     go (strike j) dx false e ih = ran-none N k p ds q (at s (strike j) ∷ U) refl refl
         (subst (λ (y : Deed). AllPairs (keyed N) (at s y ∷ U)) dx o)
-        (subst (λ (y : Deed). (f : Edit) → Mem f (at s y ∷ U) → k < keyOf N f) dx (past (eqb-false (keyOf N (at s d)) k e)))
+        (subst (λ (y : Deed). (f : Edit) → Mem f (at s y ∷ U) → k < keyOf N f) dx
+            (past (eqb-false (keyOf N (at s d)) k e)))
     go (change j x) dx false e ih = ran-none N k p ds q (at s (change j x) ∷ U) (rw (sn)) (rw (sn))
         (subst (λ (y : Deed). AllPairs (keyed N) (at s y ∷ U)) dx o)
-        (subst (λ (y : Deed). (f : Edit) → Mem f (at s y ∷ U) → k < keyOf N f) dx (past (eqb-false (keyOf N (at s d)) k e)))
+        (subst (λ (y : Deed). (f : Edit) → Mem f (at s y ∷ U) → k < keyOf N f) dx
+            (past (eqb-false (keyOf N (at s d)) k e)))
       where
         sn : eqb s p ≡ false
         sn = ne-eqb s p (λ z. eqb-false (keyOf N (at s d)) k e
@@ -523,7 +556,8 @@ module _ {K N : List ℕ} {a s : ℕ} {p : ℕ} {q : Row} {t j : ℕ} {c : CellE
           (sym (ap (joined (meaning K R (key q))) none ∙ joined-none (meaning K R (key q)))))
 
   patch-meets : Meets K N (a + 1) s R left
-  patch-meets = pass left g (ran .sorted) (λ x m. (ran .inside x m) .0) (λ x m. inl ((ran .inside x m) .1)) (a + 1) s refl (omega arith)
+  patch-meets = pass left g (ran .sorted) (λ x m. (ran .inside x m) .0) (λ x m. inl ((ran .inside x m) .1)) (a + 1) s
+      refl (omega arith)
 
 -- what the walk leaves after each step
 abbrev pub outcome : ℕ → List ℕ → List ℕ → ℕ → ℕ → Edit → Edit → Layer → Layer → Step → Layer
@@ -537,7 +571,8 @@ outcome n K N a s e f R W t =
     (patchedAdd (position f) (f ∷ W) e ∷ woven n K N (a + 1) s R (drop (changesAhead (position f) (f ∷ W)) (f ∷ W)))
 
 abbrev Weaves : ℕ → List ℕ → List ℕ → Type 0
-Weaves n K N = (a s : ℕ) (R W : Layer) → length R + length W ≤ n → Meets K N a s R W → Wove K N R W (woven n K N a s R W)
+Weaves n K N = (a s : ℕ) (R W : Layer) → length R + length W ≤ n → Meets K N a s R W
+    → Wove K N R W (woven n K N a s R W)
 
 -- both next edits concern one key
 one-key : (n : ℕ) {K N : List ℕ} {a s : ℕ} (p : ℕ) (d : Deed) (q : ℕ) (x : Deed) {R W : Layer} → Weaves n K N
@@ -553,7 +588,8 @@ one-key n {K} {N} {a} {s} p d q (add r) {R} {W} ih g same h = rw (adds d) added
 
     own : (t : Row) → Mem (add t) (d ∷ meaning K R (keyOf K (at p d))) → key t ≡ key r
     own t m =
-        let w = meaning-mem K (at p d ∷ R) (keyOf K (at p d)) (add t) (subst (λ (l : List Deed). Mem (add t) l) (sym (lowers g same)) m) in
+        let w = meaning-mem K (at p d ∷ R) (keyOf K (at p d)) (add t)
+            (subst (λ (l : List Deed). Mem (add t) l) (sym (lowers g same)) m) in
         w .2 ∙ same
 
     added : Wove K N (at p d ∷ R) (at q (add r) ∷ W) (at p (add r) ∷ woven n K N a s (at p d ∷ R) W)
@@ -562,7 +598,8 @@ one-key n {K} {N} {a} {s} p d q (add r) {R} {W} ih g same h = rw (adds d) added
         (joined-add r (d ∷ meaning K R (keyOf K (at p d))) (meaning N W (keyOf K (at p d))) (uppers-after g same) own)
         (ih a s (at p d ∷ R) W (omega arith) (fewer W g (g .upper .1) (λ y m. next m)))
 one-key n {K} {N} {a} {s} p (add t) q (strike l) {R} {W} ih g same h =
-    vanish-step g same (joined-vanish t l (meaning K R (key t)) (meaning N W (key t)) (lowers-after g same) (uppers-after g same))
+    vanish-step g same (joined-vanish t l (meaning K R (key t)) (meaning N W (key t)) (lowers-after g same)
+        (uppers-after g same))
     (ih (a + 1) s R W (omega arith) (pass W g (g .upper .1) (λ y m. next m) gone (a + 1) s refl (omega arith)))
   where
     gone : (f : Edit) → Mem f W → (key t < keyOf N f) ⊎ Quiet (at p (add t))
@@ -573,7 +610,8 @@ one-key n {K} {N} {a} {s} p (add t) q (strike l) {R} {W} ih g same h =
 one-key n {K} {N} {a} {s} p (strike k) q (strike l) {R} {W} ih g same h = absurd (never-struck g same k refl refl)
 one-key n {K} {N} {a} {s} p (change i c) q (strike l) {R} {W} ih g same h =
     drop-step g same
-    (joined-struck i c l (meaning K R (getD K p 0)) (meaning N W (getD K p 0)) (lowers-after g same) (uppers-after g same))
+    (joined-struck i c l (meaning K R (getD K p 0)) (meaning N W (getD K p 0)) (lowers-after g same)
+        (uppers-after g same))
     (ih a s R (at q (strike l) ∷ W) (omega arith)
     (pass (at q (strike l) ∷ W) g (g .upper) (λ y m. m) (λ y m. inr (refl, refl)) a s (omega arith) (omega arith)))
 one-key n {K} {N} {a} {s} p (add t) q (change j e) {R} {W} ih g same h =
@@ -592,15 +630,19 @@ one-key n {K} {N} {a} {s} p (change i c) q (change j e) {R} {W} ih g same h = go
         (outcome n K N a s (at p (change i c)) (at q (change j e)) R W (cond u Lower (cond v Drop UpperHere)))
     go true f v z =
         earlier-step g same
-        (joined-earlier i j c e (meaning K R (getD K p 0)) (meaning N W (getD K p 0)) (ltb-true i j f) (lowers-after g same) (uppers-after g same))
-        (ih (a + 0) (s + 0) R (at q (change j e) ∷ W) (omega arith) (pass-change (a + 0) (s + 0) (omega arith) (omega arith)))
+        (joined-earlier i j c e (meaning K R (getD K p 0)) (meaning N W (getD K p 0)) (ltb-true i j f)
+            (lowers-after g same) (uppers-after g same))
+        (ih (a + 0) (s + 0) R (at q (change j e) ∷ W) (omega arith)
+            (pass-change (a + 0) (s + 0) (omega arith) (omega arith)))
     go false f true z =
         drop-step g same
-        (joined-replaced i j c e (meaning K R (getD K p 0)) (meaning N W (getD K p 0)) (eqb-true i j z) (lowers-after g same) (uppers-after g same))
+        (joined-replaced i j c e (meaning K R (getD K p 0)) (meaning N W (getD K p 0)) (eqb-true i j z)
+            (lowers-after g same) (uppers-after g same))
         (ih a s R (at q (change j e) ∷ W) (omega arith) (pass-change a s refl refl))
     go false f false z =
         here-step g same refl
-        (joined-later j e (change i c ∷ meaning K R (getD K p 0)) (meaning N W (getD K p 0)) later (uppers-after g same))
+        (joined-later j e (change i c ∷ meaning K R (getD K p 0)) (meaning N W (getD K p 0)) later
+            (uppers-after g same))
         (ih a s (at p (change i c) ∷ R) W (omega arith) (fewer W g (g .upper .1) (λ y m. next m)))
       where
         ji : j < i
@@ -613,27 +655,34 @@ one-key n {K} {N} {a} {s} p (change i c) q (change j e) {R} {W} ih g same h = go
 step : (n : ℕ) {K N : List ℕ} {a s : ℕ} (p : ℕ) (d : Deed) (q : ℕ) (x : Deed) {R W : Layer} → Weaves n K N
     → Meets K N a s (at p d ∷ R) (at q x ∷ W) → suc (length R) + suc (length W) ≤ suc n
     → Wove K N (at p d ∷ R) (at q x ∷ W) (outcome n K N a s (at p d) (at q x) R W (stepOf K N (at p d) (at q x)))
-step n {K} {N} {a} {s} p d q x {R} {W} ih g h = go (ltb (keyOf K (at p d)) (keyOf N (at q x))) refl (ltb (keyOf N (at q x)) (keyOf K (at p d))) refl
+step n {K} {N} {a} {s} p d q x {R} {W} ih g h = go (ltb (keyOf K (at p d)) (keyOf N (at q x))) refl
+    (ltb (keyOf N (at q x)) (keyOf K (at p d))) refl
   where
-    go : (u : Bool) → ltb (keyOf K (at p d)) (keyOf N (at q x)) ≡ u → (v : Bool) → ltb (keyOf N (at q x)) (keyOf K (at p d)) ≡ v
-        → Wove K N (at p d ∷ R) (at q x ∷ W) (outcome n K N a s (at p d) (at q x) R W (cond u Lower (cond v Upper (meet d x))))
+    go : (u : Bool) → ltb (keyOf K (at p d)) (keyOf N (at q x)) ≡ u → (v : Bool)
+        → ltb (keyOf N (at q x)) (keyOf K (at p d)) ≡ v
+        → Wove K N (at p d ∷ R) (at q x ∷ W) (outcome n K N a s (at p d) (at q x) R W
+            (cond u Lower (cond v Upper (meet d x))))
     go true f v z =
         lower-step g low
         (ih (a + one (isAdd (at p d))) (s + one (isStrike (at p d))) R (at q x ∷ W) (omega arith)
-        (pass (at q x ∷ W) g (g .upper) (λ y m. m) (λ y m. inl (low y m)) (a + one (isAdd (at p d))) (s + one (isStrike (at p d))) refl refl))
+        (pass (at q x ∷ W) g (g .upper) (λ y m. m) (λ y m. inl (low y m)) (a + one (isAdd (at p d)))
+            (s + one (isStrike (at p d))) refl refl))
       where
         low : (y : Edit) → Mem y (at q x ∷ W) → keyOf K (at p d) < keyOf N y
         low y (here w) = omega (arith, ap (keyOf N) w, ltb-true (keyOf K (at p d)) (keyOf N (at q x)) f)
-        low y (next m) = omega (arith, keys-on N (at q x) W (g .upper) y m, ltb-true (keyOf K (at p d)) (keyOf N (at q x)) f)
+        low y (next m) = omega (arith, keys-on N (at q x) W (g .upper) y m, ltb-true (keyOf K (at p d))
+            (keyOf N (at q x)) f)
     go false f true z =
         upper-step g low (ih a s (at p d ∷ R) W (omega arith) (fewer W g (g .upper .1) (λ y m. next m)))
       where
         low : (y : Edit) → Mem y (at p d ∷ R) → keyOf N (at q x) < keyOf K y
         low y (here w) = omega (arith, ap (keyOf K) w, ltb-true (keyOf N (at q x)) (keyOf K (at p d)) z)
-        low y (next m) = omega (arith, keys-on K (at p d) R (g .lower) y m, ltb-true (keyOf N (at q x)) (keyOf K (at p d)) z)
+        low y (next m) = omega (arith, keys-on K (at p d) R (g .lower) y m, ltb-true (keyOf N (at q x))
+            (keyOf K (at p d)) z)
     go false f false z =
         one-key n p d q x ih g
-        (omega (arith, ltb-false (keyOf K (at p d)) (keyOf N (at q x)) f, ltb-false (keyOf N (at q x)) (keyOf K (at p d)) z)) h
+        (omega (arith, ltb-false (keyOf K (at p d)) (keyOf N (at q x)) f, ltb-false (keyOf N (at q x))
+            (keyOf K (at p d)) z)) h
 
 -- nothing is left of the upper layer
 lowers-only : {K N : List ℕ} {a s : ℕ} (R : Layer) → Meets K N a s R [] → Wove K N R [] R

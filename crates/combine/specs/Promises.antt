@@ -19,9 +19,11 @@ use Rattle.model.specs.Examples.{four, Example, edits, shifts, passes, refuses,
 -- the contract of `combine`: the answer a, and what the third slice holds afterwards
 abbrev pub Outcome : ℕ → List ℕ → ℕ → List ℕ → ℕ → List ℕ → List ℕ → Answer → List ℕ → Type 0
 Outcome c K mR rawR mW rawW out a out′ =
-    (a ≡ combineAnswer c K mR rawR mW rawW (length out)) × (out′ ≡ written a (flat c (combinedLayer c K mR rawR mW rawW)) out)
+    (a ≡ combineAnswer c K mR rawR mW rawW (length out)) × (out′
+        ≡ written a (flat c (combinedLayer c K mR rawR mW rawW)) out)
 
--- the m entries at the front of the third slice are the combination of R and W: it keeps form and fits, the fit call accepts it,
+-- the m entries at the front of the third slice are the combination of R and W: it keeps form and fits, the fit call
+-- accepts it,
 -- and it reads as R and then W in turn; what stands behind it is as it was
 pub record Left (c : ℕ) (T : Table) (R W : Layer) (m : ℕ) (out out′ : List ℕ) : Type 0 where
   pub holds : layerOf c m out′ ≡ combine (keys T) R W

@@ -1,11 +1,11 @@
 -- What the walk's functions know of the slices, and what stands in the buffer after a piece is written.
 use mathlib.Core.Path.{_≡_}
 use mathlib.Core.Bool.{true}
-use mathlib.Core.List.{List, [], _∷_, _++_, map, List·Memᴰ as Mem}
+use mathlib.Core.List.{List, _++_, map, List·Memᴰ as Mem}
 use Prim.Native.Nat.{ℕ, _+_, _*_, _-_, _≤_, _<_}
 use lib.ListN.{length, take}
 use Rattle.model.specs.Cell.{CellEdit}
-use Rattle.model.specs.Layer.{Deed, change, Edit, at, Layer, position, rowsAfter}
+use Rattle.model.specs.Layer.{change, at, Layer, rowsAfter}
 use Rattle.model.specs.Form.{sound, zeros}
 use Rattle.model.specs.Raw.{Held, entryAt, entriesAt, editOf, layerOf, flat}
 use Rattle.model.specs.declared.Entry.{Entry}

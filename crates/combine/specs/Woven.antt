@@ -1,6 +1,7 @@
--- Two layers into one by a single walk along both: by key, the lower layer's edits over the base keys K, the upper's over the
+-- Two layers into one by a single walk along both: by key, the lower layer's edits over the base keys K, the upper's
+-- over the
 -- keys N that the lower leaves.
-use mathlib.Core.Bool.{Bool, true, false, cond, _||_}
+use mathlib.Core.Bool.{cond, _||_}
 use mathlib.Core.List.{List, [], _∷_, map}
 use Prim.Native.Nat.{ℕ, zero, suc, _+_, _-_}
 use lib.ListN.{length, drop}

@@ -44,8 +44,10 @@ fn join(
     out: &mut [u64],
 ) -> Answer
     requires { ⌜ Fits c (now keys) (now mid) mr (now r) mw (now w) ⌝ }
-    ensures { λ a. ⌜ (a ≡ joinAnswer c (now (keys .entry)) mr (now (r .entry)) mw (now (w .entry)) (length (now (out .entry))))
-        × (now (out .exit) ≡ written a (flat c (combinedLayer c (now (keys .entry)) mr (now (r .entry)) mw (now (w .entry)))) (now (out .entry))) ⌝ }
+    ensures { λ a. ⌜ (a ≡ joinAnswer c (now (keys .entry)) mr (now (r .entry)) mw (now (w .entry))
+        (length (now (out .entry))))
+        × (now (out .exit) ≡ written a (flat c (combinedLayer c (now (keys .entry)) mr (now (r .entry)) mw (now (w .entry))))
+        (now (out .entry))) ⌝ }
 {
     let mut to: [u64; 10240] = [0; 10240];
     let m = weave::weave(c, keys, mid, mr, r, mw, w, &mut to);
@@ -68,8 +70,10 @@ fn fit_both(
     out: &mut [u64],
 ) -> Answer
     requires { ⌜ Forms c (now keys) mr (now r) mw (now w) ⌝ }
-    ensures { λ a. ⌜ (a ≡ fitsAnswer c (now (keys .entry)) mr (now (r .entry)) mw (now (w .entry)) (length (now (out .entry))))
-        × (now (out .exit) ≡ written a (flat c (combinedLayer c (now (keys .entry)) mr (now (r .entry)) mw (now (w .entry)))) (now (out .entry))) ⌝ }
+    ensures { λ a. ⌜ (a ≡ fitsAnswer c (now (keys .entry)) mr (now (r .entry)) mw (now (w .entry))
+        (length (now (out .entry))))
+        × (now (out .exit) ≡ written a (flat c (combinedLayer c (now (keys .entry)) mr (now (r .entry)) mw (now (w .entry))))
+        (now (out .entry))) ⌝ }
 {
     if !form::keys_ascend(keys) {
         return refused(3, 0);
@@ -87,7 +91,8 @@ fn fit_both(
     join(c, keys, &mid[..rows], mr, r, mw, w, out)
 }
 
-// Combines the lower layer R over the base keys and the upper layer W over what R shows into one layer over the base, in the third slice.
+// Combines the lower layer R over the base keys and the upper layer W over what R shows into one layer over the base,
+// in the third slice.
 pub fn combine(
     c: usize,
     keys: &[u64],
@@ -97,8 +102,10 @@ pub fn combine(
     w: &[u64],
     out: &mut [u64],
 ) -> Answer
-    ensures { λ a. ⌜ (a ≡ combineAnswer c (now (keys .entry)) mr (now (r .entry)) mw (now (w .entry)) (length (now (out .entry))))
-        × (now (out .exit) ≡ written a (flat c (combinedLayer c (now (keys .entry)) mr (now (r .entry)) mw (now (w .entry)))) (now (out .entry))) ⌝ }
+    ensures { λ a. ⌜ (a ≡ combineAnswer c (now (keys .entry)) mr (now (r .entry)) mw (now (w .entry))
+        (length (now (out .entry))))
+        × (now (out .exit) ≡ written a (flat c (combinedLayer c (now (keys .entry)) mr (now (r .entry)) mw (now (w .entry))))
+        (now (out .entry))) ⌝ }
 {
     let n = keys.len();
     if !(form::args_ok(c, n, mr, r.len()) & form::args_ok(c, n, mw, w.len())) {

@@ -1,19 +1,18 @@
 // The walk along a lower and an upper layer: which edit goes next, and the entries that it leaves.
 use model::Entry;
 ghost use mathlib.Core.Path.{_≡_};
-ghost use mathlib.Core.Bool.{true};
 ghost use mathlib.Core.List.{_∷_, _++_, map};
 ghost use Prim.Native.Nat.{_+_, _*_, _-_, _≤_, _<_};
 ghost use lib.ListN.{length};
 ghost use Rattle.order.specs.Lists.{one};
 ghost use Rattle.model.specs.Raw.{flat, entryAt, entriesAt, editOf, layerOf};
-ghost use Rattle.model.specs.Form.{sound};
 ghost use Rattle.model.specs.Meaning.{keyOf};
 ghost use Rattle.combine.specs.Woven.{meetKinds, stepOf, rebased, changesAhead, patched, wovenLayer};
 ghost use Rattle.combine.specs.Walk.{Put, Sound, Run, Uppers, lefts, Rest, Both, Woven};
 
 // What the next edits of both layers make of each other.
-// Lower: the lower layer's stands as it is. Upper: the upper's stands, at its base position. UpperHere: the same, at the lower's position.
+// Lower: the lower layer's stands as it is. Upper: the upper's stands, at its base position. UpperHere: the same, at the
+// lower's position.
 // Drop: the lower's goes. Vanish: both go. Patch: the lower's added row takes the upper's changes in.
 pub enum Step {
     Lower,
@@ -70,7 +69,8 @@ fn next_step(
     mid: &[u64],
 ) -> Step
     requires { ⌜ Sound c at (now r) (length (now keys)) × Sound c bt (now w) (length (now mid)) ⌝ }
-    ensures { λ s. ⌜ s ≡ stepOf (now (keys .entry)) (now (mid .entry)) (editOf (entryAt c at (now (r .entry)))) (editOf (entryAt c bt (now (w .entry)))) ⌝ }
+    ensures { λ s. ⌜ s ≡ stepOf (now (keys .entry)) (now (mid .entry)) (editOf (entryAt c at (now (r .entry))))
+        (editOf (entryAt c bt (now (w .entry)))) ⌝ }
 {
     let lower = key_at(c, at, r, keys);
     let upper = key_at(c, bt, w, mid);
@@ -86,7 +86,8 @@ fn next_step(
 // Writes the entry from `at` to the buffer from o on, at position p.
 fn put_entry(c: usize, p: u64, at: usize, layer: &[u64], out: &mut [u64], o: usize)
     requires { ⌜ (at + (c + 2) ≤ length (now layer)) × (o + (c + 2) ≤ length (now out)) ⌝ }
-    ensures { λ _. ⌜ Put (p ∷ entryAt c at (now (layer .entry)) .kind ∷ entryAt c at (now (layer .entry)) .vals) (now (out .entry)) o (now (out .exit)) ⌝ }
+    ensures { λ _. ⌜ Put (p ∷ entryAt c at (now (layer .entry)) .kind ∷ entryAt c at (now (layer .entry)) .vals)
+        (now (out .entry)) o (now (out .exit)) ⌝ }
 {
     let end = at + (c + 2);
     run::copy_in(&layer[at..end], out, o);
@@ -113,7 +114,7 @@ fn patch(c: usize, p: u64, m: usize, from: usize, w: &[u64], row: &mut [u64]) ->
     i
 }
 
-// Writes the added row from `at` with the changes at p that the m entries from `bt` begin with, and returns how many there are.
+// Writes the added row from `at` with the changes that the m entries from `bt` begin with, and returns how many there are.
 fn put_patched(
     c: usize,
     at: usize,
@@ -124,10 +125,13 @@ fn put_patched(
     out: &mut [u64],
     o: usize,
 ) -> usize
-    requires { ⌜ (at + (c + 2) ≤ length (now r)) × (bt + (c + 2) ≤ length (now w)) × (o + (c + 2) ≤ length (now out)) × Run c m bt (now w) c ⌝ }
-    ensures { λ k. ⌜ (k ≡ changesAhead (entryAt c bt (now (w .entry)) .pos) (map editOf (entriesAt c m bt (now (w .entry)))))
+    requires { ⌜ (at + (c + 2) ≤ length (now r)) × (bt + (c + 2) ≤ length (now w)) × (o + (c + 2) ≤ length (now out))
+        × Run c m bt (now w) c ⌝ }
+    ensures { λ k. ⌜ (k ≡ changesAhead (entryAt c bt (now (w .entry)) .pos)
+        (map editOf (entriesAt c m bt (now (w .entry)))))
         × Put (entryAt c at (now (r .entry)) .pos ∷ entryAt c at (now (r .entry)) .kind
-        ∷ patched (entryAt c bt (now (w .entry)) .pos) (map editOf (entriesAt c m bt (now (w .entry)))) (entryAt c at (now (r .entry)) .vals))
+        ∷ patched (entryAt c bt (now (w .entry)) .pos) (map editOf (entriesAt c m bt (now (w .entry))))
+        (entryAt c at (now (r .entry)) .vals))
         (now (out .entry)) o (now (out .exit)) ⌝ }
 {
     put_entry(c, r[at], at, r, out, o);
@@ -160,7 +164,8 @@ fn put_uppers(
     o: usize,
 )
     requires { ⌜ Uppers c m from (now w) strikes o (length (now out)) ⌝ }
-    ensures { λ _. ⌜ Put (flat c (map (rebased adds strikes) (map editOf (entriesAt c m from (now (w .entry)))))) (now (out .entry)) o (now (out .exit)) ⌝ }
+    ensures { λ _. ⌜ Put (flat c (map (rebased adds strikes) (map editOf (entriesAt c m from (now (w .entry))))))
+        (now (out .entry)) o (now (out .exit)) ⌝ }
 {
     let mut i: usize = 0;
     let mut at = from;
@@ -173,8 +178,8 @@ fn put_uppers(
     }
 }
 
-// Writes what is left of both layers from o on: the lower one's entries from number i on as they are, the upper's from number j on
-// past so many adds and strikes.
+// Writes what is left of both layers from o on: the lower one's entries from number i on as they are, the upper's from
+// number j on past so many adds and strikes.
 fn finish(
     c: usize,
     mr: usize,
@@ -189,7 +194,8 @@ fn finish(
     o: usize,
 )
     requires { ⌜ Rest c mr i (now r) mw j (now w) strikes o (length (now out)) ⌝ }
-    ensures { λ _. ⌜ Put (flat c (lefts c mr i (now (r .entry)) ++ map (rebased adds strikes) (lefts c mw j (now (w .entry))))) (now (out .entry)) o (now (out .exit)) ⌝ }
+    ensures { λ _. ⌜ Put (flat c (lefts c mr i (now (r .entry)) ++ map (rebased adds strikes) (lefts c mw j (now (w .entry)))))
+        (now (out .entry)) o (now (out .exit)) ⌝ }
 {
     let wide = c + 2;
     let at = i * wide;
@@ -205,7 +211,8 @@ fn one_if(b: bool) -> u64
     if b { 1 } else { 0 }
 }
 
-// Walks along both layers, writes the entries that they make together to the front of the buffer, and returns how many there are.
+// Walks along both layers, writes the entries that they make together to the front of the buffer, and returns how many
+// there are.
 pub fn weave(
     c: usize,
     keys: &[u64],
@@ -217,7 +224,8 @@ pub fn weave(
     out: &mut [u64],
 ) -> usize
     requires { ⌜ Both c (now keys) (now mid) mr (now r) mw (now w) (length (now out)) ⌝ }
-    ensures { λ m. ⌜ Woven c (wovenLayer (now (keys .entry)) (now (mid .entry)) (layerOf c mr (now (r .entry))) (layerOf c mw (now (w .entry)))) m (now (out .entry)) (now (out .exit)) ⌝ }
+    ensures { λ m. ⌜ Woven c (wovenLayer (now (keys .entry)) (now (mid .entry)) (layerOf c mr (now (r .entry)))
+        (layerOf c mw (now (w .entry)))) m (now (out .entry)) (now (out .exit)) ⌝ }
 {
     let wide = c + 2;
     let mut i: usize = 0;

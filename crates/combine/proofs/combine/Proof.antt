@@ -1,4 +1,5 @@
--- `combine::combine` meets its contract: the arguments of both layers, then the form of each, then the rest of the table.
+-- `combine::combine` meets its contract: the arguments of both layers, then the form of each, then the rest of the
+-- table.
 -- Assumes nothing.
 use borrow.Author.Tests.{not-true, not-false}
 use native.Mathlib.Omega.{arith}
@@ -55,13 +56,17 @@ lower-done : (c : tie.After-rows) →
 lower-done c = sym (c .before .before .check .ensures) ∙ c .rows .given .1
 
 upper-not : (c : tie.After-y) →
-    let a = c .before .before .before .before .before .before .before .before .before .before .before .before .before .before .args in
-    formAnswer (a .c) (c .before .before .before .before .rows .given .0 .0) (a .mw) (a .w .now) ≡ Refused (c .y .given .0 .0)
+    let a =
+        c .before .before .before .before .before .before .before .before .before .before .before .before .before .before .args in
+    formAnswer (a .c) (c .before .before .before .before .rows .given .0 .0) (a .mw) (a .w .now)
+        ≡ Refused (c .y .given .0 .0)
 upper-not c = sym (c .before .before .check2 .ensures) ∙ c .y .given .1
 
 upper-done : (c : tie.After-enum-told) →
-    let a = c .before .before .before .before .before .before .before .before .before .before .before .before .before .before .args in
-    formAnswer (a .c) (c .before .before .before .before .rows .given .0 .0) (a .mw) (a .w .now) ≡ Done (c .enum-told .given .0 .0)
+    let a =
+        c .before .before .before .before .before .before .before .before .before .before .before .before .before .before .args in
+    formAnswer (a .c) (c .before .before .before .before .rows .given .0 .0) (a .mw) (a .w .now)
+        ≡ Done (c .enum-told .given .0 .0)
 upper-done c = sym (c .before .before .check2 .ensures) ∙ c .enum-told .given .1
 
 args-ok-requires : tie.Need-args-ok-requires
@@ -78,7 +83,8 @@ returns c =
     let s = c .before .before .before .before .before .before .before .before in
     let a = s .args in
     let no = sym (tested (c .before .before)) ∙ not-true _ (c .before .if1 .taken) in (
-      c .refused .ensures ∙ args-refused (a .c) (a .keys .now) (a .mr) (a .r .now) (a .mw) (a .w .now) (length (a .out .now)) no,
+      c .refused .ensures ∙ args-refused (a .c) (a .keys .now) (a .mr) (a .r .now) (a .mw) (a .w .now)
+          (length (a .out .now)) no,
       ap (After s) (sym (c .refused .ensures)),
     )
 
@@ -99,7 +105,8 @@ enum-known-y c = search needs
 
 add-refused : tie.Need-add-refused
 add-refused c =
-    let s = c .before .before .before .before .before .before .before .before .before .before .before .before .before .before .before .before in
+    let s =
+        c .before .before .before .before .before .before .before .before .before .before .before .before .before .before .before .before in
     let e = c .before .before .before .before .before .before .before .before .before in
     let r = c .before .before .before .before .before .before in
     let y = c .before .before in
@@ -118,7 +125,8 @@ enum-told c = search needs
 
 fit-both-requires : tie.Need-fit-both-requires
 fit-both-requires c κs =
-    let s = c .before .before .before .before .before .before .before .before .before .before .before .before .before .before .before in
+    let s =
+        c .before .before .before .before .before .before .before .before .before .before .before .before .before .before .before in
     let e = c .before .before .before .before .before .before .before .before in
     let r = c .before .before .before .before .before in
     let d = c .before in
@@ -132,20 +140,23 @@ returns-2 c =
     let e = c .before .before .before .before in
     let a = s .args in
     let x = c .before .x .given in (
-      lower-form-refused (a .c) (a .keys .now) (a .mr) (a .r .now) (a .mw) (a .w .now) (length (a .out .now)) (passed e) (x .0 .0)
+      lower-form-refused (a .c) (a .keys .now) (a .mr) (a .r .now) (a .mw) (a .w .now) (length (a .out .now)) (passed e)
+          (x .0 .0)
           (sym (c .before .before .before .check .ensures) ∙ x .1),
       refl,
     )
 
 returns-3 : tie.Need-returns-3
 returns-3 c =
-    let s = c .before .before .before .before .before .before .before .before .before .before .before .before .before .before .before .before .before in
+    let s =
+        c .before .before .before .before .before .before .before .before .before .before .before .before .before .before .before .before .before in
     let e = c .before .before .before .before .before .before .before .before .before .before in
     let r = c .before .before .before .before .before .before .before in
     let y = c .before .before .before in
     let a = s .args in (
       c .refused2 .ensures
-          ∙ upper-form-refused (a .c) (a .keys .now) (a .mr) (a .r .now) (a .mw) (a .w .now) (length (a .out .now)) (passed e)
+          ∙ upper-form-refused (a .c) (a .keys .now) (a .mr) (a .r .now) (a .mw) (a .w .now) (length (a .out .now))
+              (passed e)
           (r .rows .given .0 .0) (lower-done r) (y .y .given .0 .0) (upper-not y),
       ap (After s) (sym (c .refused2 .ensures)),
     )
@@ -155,7 +166,8 @@ same-length c = search needs
 
 returns-4 : tie.Need-returns-4
 returns-4 c =
-    let s = c .before .before .before .before .before .before .before .before .before .before .before .before .before .before .before .before .before .before in
+    let s =
+        c .before .before .before .before .before .before .before .before .before .before .before .before .before .before .before .before .before .before in
     let e = c .before .before .before .before .before .before .before .before .before .before .before in
     let r = c .before .before .before .before .before .before .before .before in
     let d = c .before .before .before .before in

@@ -1,12 +1,13 @@
--- `combine::fit_both` meets its contract: the tests are the rows of the table, and the keys read are those that the lower layer leaves.
+-- `combine::fit_both` meets its contract: the tests are the rows of the table, and the keys read are those that the
+-- lower layer leaves.
 -- Assumes nothing.
 use borrow.Author.Tests.{not-true, not-false}
 use native.Mathlib.Omega.{arith}
-use mathlib.Core.Path.{_≡_, refl, sym, ap, _∙_}
+use mathlib.Core.Path.{_≡_, sym, ap, _∙_}
 use mathlib.Core.Bool.{true}
 use mathlib.Core.List.{List}
-use Prim.Native.Nat.{ℕ, _+_, _≤_}
-use lib.ListN.{length, take, drop, length-append}
+use Prim.Native.Nat.{ℕ, _≤_}
+use lib.ListN.{length, take, length-append}
 use lib.Seq.{length-take-le}
 use Rattle.order.specs.Lists.{ascending}
 use Rattle.model.specs.declared.Answer.{Answer}
@@ -14,9 +15,16 @@ use Rattle.model.specs.Raw.{layerOf, flat}
 use Rattle.model.specs.Fit.{fitPlace}
 use Rattle.model.specs.Read.{keysAfter}
 use Rattle.model.specs.Calls.{combinedLayer, written}
-use Rattle.combine.specs.Rows.{Fits}
 use Rattle.combine.proofs.Joining.{upper-form}
-use Rattle.combine.proofs.Answering.{keys-refused, lower-refused, upper-refused, join-answer, can-read, upper-few, mid-keys}
+use Rattle.combine.proofs.Answering.{
+  keys-refused,
+  lower-refused,
+  upper-refused,
+  join-answer,
+  can-read,
+  upper-few,
+  mid-keys,
+}
 use borrow.Author.Needs.{needs}
 use Rattle.combine.proofs.fit_both.Statement.{statement}
 use Rattle.combine.proofs.fit_both.Tie as tie
@@ -39,7 +47,8 @@ lower-fits c = omega (arith, c .if2 .left, c .before .fit-place .ensures)
 -- the front of the buffer is the key column after the lower layer
 module _ (c : tie.After-read-part) where
   abbrev shown : List ℕ
-  shown = let a = c .before .before .before .before .before .before .before .before .before .before .args in keysAfter (a .keys .now) (layerOf (a .c) (a .mr) (a .r .now))
+  shown = let a = c .before .before .before .before .before .before .before .before .before .before .args in keysAfter
+      (a .keys .now) (layerOf (a .c) (a .mr) (a .r .now))
 
   abbrev buffer : List ℕ
   buffer = c .read-part .last .1 .1 .1 .1 .1 .0
@@ -58,7 +67,8 @@ module _ (c : tie.After-read-part) where
 
 -- the upper layer fits it
 upper-fits : (c : tie.Else3) →
-    let a = c .before .before .before .before .before .before .before .before .before .before .before .before .before .before .args in
+    let a =
+        c .before .before .before .before .before .before .before .before .before .before .before .before .before .before .args in
     a .mw ≤ fitPlace (mid (c .before .before .before .before)) (layerOf (a .c) (a .mw) (a .w .now))
 upper-fits c = omega (arith, c .if3 .left, c .before .fit-place2 .ensures)
 
@@ -73,7 +83,8 @@ returns c =
     let s = c .before .before .before .before .before .before .before in
     let a = s .args in
     let no = sym (c .before .before .keys-ascend .ensures) ∙ not-true _ (c .before .if1 .taken) in (
-      c .refused .ensures ∙ keys-refused (a .c) (a .keys .now) (a .mr) (a .r .now) (a .mw) (a .w .now) (length (a .out .now)) no,
+      c .refused .ensures ∙ keys-refused (a .c) (a .keys .now) (a .mr) (a .r .now) (a .mw) (a .w .now)
+          (length (a .out .now)) no,
       ap (After s) (sym (c .refused .ensures)),
     )
 
@@ -109,24 +120,30 @@ slice-aggregate-fit-place c = mid-length (c .before .before)
 fit-place-requires-2 : tie.Need-fit-place-requires-2
 fit-place-requires-2 c κs =
     let r = c .before .before in
-    upper-form (c .before .before .before .before .before .before .before .before .before .before .before .before .pre) (mid r) (mid-is r)
+    upper-form (c .before .before .before .before .before .before .before .before .before .before .before .before .pre)
+        (mid r) (mid-is r)
 
 add-refused : tie.Need-add-refused
-add-refused c = omega (arith, c .if3 .taken, upper-few (c .before .before .before .before .before .before .before .before .before .before .before .before .before .before .pre))
+add-refused c =
+    omega
+    (arith, c .if3 .taken, upper-few
+    (c .before .before .before .before .before .before .before .before .before .before .before .before .before .before .pre))
 
 refused-requires-3 : tie.Need-refused-requires-3
 refused-requires-3 c κs = search needs
 
 returns-3 : tie.Need-returns-3
 returns-3 c =
-    let s = c .before .before .before .before .before .before .before .before .before .before .before .before .before .before .before in
+    let s =
+        c .before .before .before .before .before .before .before .before .before .before .before .before .before .before .before in
     let a = s .args in
     let r = c .before .before .before .before .before in
     let e = c .before .before .before .before .before .before .before in
     let f = c .before .before .fit-place2 in (
       c .refused3 .ensures
           ∙ upper-refused (a .c) (a .keys .now) (a .mr) (a .r .now) (a .mw) (a .w .now) (length (a .out .now))
-          (rising (e .before .before)) (lower-fits e) (mid r) (mid-is r) (f .result) (f .ensures) (c .before .if3 .taken),
+          (rising (e .before .before)) (lower-fits e) (mid r) (mid-is r) (f .result) (f .ensures)
+              (c .before .if3 .taken),
       ap (After s) (sym (c .refused3 .ensures)),
     )
 
@@ -142,7 +159,8 @@ join-requires c κs =
     let r = c .before .before .before .before .before .before in
     let e = c .before .before .before .before .before .before .before .before in
     record {
-      forms = c .before .before .before .before .before .before .before .before .before .before .before .before .before .before .before .before .pre;
+      forms =
+          c .before .before .before .before .before .before .before .before .before .before .before .before .before .before .before .before .pre;
       rising = rising (e .before .before);
       lower = lower-fits e;
       mid = mid-is r;
@@ -154,7 +172,8 @@ same-length c = search needs
 
 returns-4 : tie.Need-returns-4
 returns-4 c =
-    let a = c .before .before .before .before .before .before .before .before .before .before .before .before .before .before .before .before .before .before .before .args in
+    let a =
+        c .before .before .before .before .before .before .before .before .before .before .before .before .before .before .before .before .before .before .before .args in
     let r = c .before .before .before .before .before .before .before .before .before in
     let e = c .before .before .before .before .before .before .before .before .before .before .before in
     let u = c .before .before .before .before .before in

@@ -1,4 +1,5 @@
--- `combine::join` meets its contract: what the walk leaves is the combination, and it is copied whole where there is room.
+-- `combine::join` meets its contract: what the walk leaves is the combination, and it is copied whole where there is
+-- room.
 -- Assumes nothing.
 use native.Mathlib.Omega.{arith}
 use mathlib.Core.Path.{_≡_, refl, sym, ap, _∙_}
@@ -57,7 +58,8 @@ returns c =
     let k = c .before .before .room-of in
     let M = combinedLayer (a .c) (a .keys .now) (a .mr) (a .r .now) (a .mw) (a .w .now) in (
       c .refused .ensures
-          ∙ short (start w .pre) (w .weave .ensures) (length (a .out .now)) (k .result) (k .ensures) (c .before .if1 .taken),
+          ∙ short (start w .pre) (w .weave .ensures) (length (a .out .now)) (k .result) (k .ensures)
+              (c .before .if1 .taken),
       ap (λ (t : Answer). written t (flat (a .c) M) (a .out .now)) (sym (c .refused .ensures)),
     )
 
@@ -74,7 +76,8 @@ slice-aggregate-copy-in : tie.Need-slice-aggregate-copy-in
 slice-aggregate-copy-in c = sym (front-length (c .before .before .before .before))
 
 copy-in-requires : tie.Need-copy-in-requires
-copy-in-requires c κs = omega (arith, front-length (c .before .before .before .before .before), fits-out (c .before .before))
+copy-in-requires c κs = omega (arith, front-length (c .before .before .before .before .before), fits-out
+    (c .before .before))
 
 same-length : tie.Need-same-length
 same-length c = search needs
@@ -85,8 +88,10 @@ returns-2 c =
     let a = start w .args in
     let k = c .before .before .before .before .before .before .room-of in
     let f = c .before .before .copy-in in (
-      enough (start w .pre) (w .weave .ensures) (length (a .out .now)) (k .result) (k .ensures) (c .before .before .before .before .before .if1 .left),
-      copied (start w .pre) (w .weave .ensures) (a .out .now) (f .last .1 .0) (take (size w) (buffer w)) refl (f .ensures .1),
+      enough (start w .pre) (w .weave .ensures) (length (a .out .now)) (k .result) (k .ensures)
+          (c .before .before .before .before .before .if1 .left),
+      copied (start w .pre) (w .weave .ensures) (a .out .now) (f .last .1 .0) (take (size w) (buffer w)) refl
+          (f .ensures .1),
     )
 
 pub join-spec : {M : Type 1} → statement M

@@ -1,7 +1,7 @@
 -- `combine::weave::finish` meets its contract: a run is copied, and the rest is written behind it.
 -- Assumes nothing.
 use native.Mathlib.Omega.{arith}
-use Prim.Native.Nat.{_+_, _*_, _-_, _≤_}
+use Prim.Native.Nat.{_+_, _*_, _≤_}
 use Rattle.combine.proofs.Finishing.{lower-at, upper-at, part-room, uppers, both-put}
 use borrow.Author.Needs.{needs}
 use Rattle.combine.proofs.weave.finish.Statement.{statement}
@@ -42,7 +42,8 @@ sub-put-uppers : tie.Need-sub-put-uppers
 sub-put-uppers c = search needs
 
 mul-put-uppers : tie.Need-mul-put-uppers
-mul-put-uppers c = let s = c .before .before .before .before .before .before .before .before in omega (arith, upper-off s, s .pre .upper .room)
+mul-put-uppers c = let s = c .before .before .before .before .before .before .before .before in omega
+    (arith, upper-off s, s .pre .upper .room)
 
 put-uppers-requires : tie.Need-put-uppers-requires
 put-uppers-requires c κs =

@@ -25,7 +25,8 @@ value-at-requires c κs = search needs
 returns : tie.Need-returns
 returns c =
     let a = c .before .before .before .before .before .args in
-    c .value-at .ensures ∙ sym (key-named (a .keys .now) (entryAt (a .c) (a .at) (a .layer .now)) (c .before .if1 .taken))
+    c .value-at .ensures ∙ sym (key-named (a .keys .now) (entryAt (a .c) (a .at) (a .layer .now))
+        (c .before .if1 .taken))
 
 mul-s : tie.Need-mul-s
 mul-s c = search needs
@@ -34,7 +35,8 @@ shared-slice-read-s : tie.Need-shared-slice-read-s
 shared-slice-read-s c = search needs
 
 -- a change stands at a row
-row : (c : tie.Else1) → let a = c .before .before .before .before .args in getD (a .layer .now) (a .at) 0 < length (a .keys .now)
+row : (c : tie.Else1) → let a = c .before .before .before .before .args in getD (a .layer .now) (a .at) 0 < length
+    (a .keys .now)
 row c =
     let s = c .before .before .before .before in
     let a = s .args in

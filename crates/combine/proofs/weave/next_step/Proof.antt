@@ -1,7 +1,6 @@
 -- `combine::weave::next_step` meets its contract: the keys are compared first, then the kinds.
 -- Assumes nothing.
-use mathlib.Core.Path.{_∙_, sym}
-use lib.ListN.{getD}
+use mathlib.Core.Path.{_∙_}
 use Rattle.model.specs.Raw.{entryAt, editOf}
 use Rattle.combine.proofs.Entries.{meet-kinds, step-lower, step-upper, step-meet}
 use borrow.Author.Needs.{needs}
@@ -18,15 +17,18 @@ returns : tie.Need-returns
 returns c =
     let k = c .before in
     let a = k .before .before .before .before .before .before .args in
-    step-lower (a .keys .now) (a .mid .now) (editOf (entryAt (a .c) (a .at) (a .r .now))) (editOf (entryAt (a .c) (a .bt) (a .w .now)))
+    step-lower (a .keys .now) (a .mid .now) (editOf (entryAt (a .c) (a .at) (a .r .now)))
+        (editOf (entryAt (a .c) (a .bt) (a .w .now)))
     (k .before .key-at .result) (k .key-at2 .result) (k .before .key-at .ensures) (k .key-at2 .ensures) (c .if1 .taken)
 
 returns-2 : tie.Need-returns-2
 returns-2 c =
     let k = c .before .before in
     let a = k .before .before .before .before .before .before .args in
-    step-upper (a .keys .now) (a .mid .now) (editOf (entryAt (a .c) (a .at) (a .r .now))) (editOf (entryAt (a .c) (a .bt) (a .w .now)))
-    (k .before .key-at .result) (k .key-at2 .result) (k .before .key-at .ensures) (k .key-at2 .ensures) (c .before .if1 .left) (c .if2 .taken)
+    step-upper (a .keys .now) (a .mid .now) (editOf (entryAt (a .c) (a .at) (a .r .now)))
+        (editOf (entryAt (a .c) (a .bt) (a .w .now)))
+    (k .before .key-at .result) (k .key-at2 .result) (k .before .key-at .ensures) (k .key-at2 .ensures)
+        (c .before .if1 .left) (c .if2 .taken)
 
 add-meeting : tie.Need-add-meeting
 add-meeting c = search needs
@@ -58,7 +60,8 @@ returns-3 c =
     let f = entryAt (a .c) (a .bt) (a .w .now) in
     c .meeting .ensures ∙ meet-kinds (e .kind) (f .kind) (e .vals) (f .vals)
     ∙ step-meet (a .keys .now) (a .mid .now) (editOf e) (editOf f)
-    (k .before .key-at .result) (k .key-at2 .result) (k .before .key-at .ensures) (k .key-at2 .ensures) (t .before .if1 .left) (t .if2 .left)
+    (k .before .key-at .result) (k .key-at2 .result) (k .before .key-at .ensures) (k .key-at2 .ensures)
+        (t .before .if1 .left) (t .if2 .left)
 
 pub next-step-spec : {M : Type 1} → statement M
 next-step-spec =

@@ -1,6 +1,6 @@
--- `combine::weave::patch` meets its contract: the invariant says what is left to do is what the rest of the entries asks of the row.
+-- `combine::weave::patch` meets its contract: the invariant says what is left to do is what the rest of the entries
+-- asks of the row.
 -- Assumes nothing.
-use borrow.Author.Needs.{needs}
 use native.Mathlib.Omega.{arith}
 use Prim.Native.Nat.{_+_, _-_, _≤_, _<_}
 use lib.ListN.{length, getD}
@@ -15,12 +15,15 @@ abbrev μ-loop : tie.MeasureT-loop
 μ-loop c p m from w row₀ i₀ at₀ row i at = m - i
 
 -- the entry lies in its slice, and where it goes on its column is one of the row's
-here : (c : tie.In-loop Inv-loop μ-loop) → let a = c .before .before .args in c .before .loop .at + (a .c + 2) ≤ length (a .w .now)
+here : (c : tie.In-loop Inv-loop μ-loop) → let a = c .before .before .args in c .before .loop .at + (a .c + 2) ≤ length
+    (a .w .now)
 here c = near (c .before .loop .inv) (c .loop-test .taken)
 
 inside : (c : tie.Else1 Inv-loop μ-loop) → let a = c .before .before .before .before .before .args in
-    getD (a .w .now) (c .before .before .before .before .loop .at + 1) 0 < length (c .before .before .before .before .loop .row)
-inside c = column (c .before .before .before .before .loop .inv) (c .before .before .before .loop-test .taken) (c .if1 .left)
+    getD (a .w .now) (c .before .before .before .before .loop .at + 1) 0 < length
+        (c .before .before .before .before .loop .row)
+inside c = column (c .before .before .before .before .loop .inv) (c .before .before .before .loop-test .taken)
+    (c .if1 .left)
 
 loop-holds : tie.Need-loop-holds Inv-loop μ-loop
 loop-holds c = set-out (c .pre)
@@ -44,7 +47,8 @@ same-length : tie.Need-same-length Inv-loop μ-loop
 same-length c = c .before .before .before .before .loop .inv .size
 
 returns : tie.Need-returns Inv-loop μ-loop
-returns c = stopped (c .before .before .before .before .loop .inv) (c .before .before .before .loop-test .taken) (c .if1 .taken)
+returns c = stopped (c .before .before .before .before .loop .inv) (c .before .before .before .loop-test .taken)
+    (c .if1 .taken)
 
 add-row : tie.Need-add-row Inv-loop μ-loop
 add-row c = omega (arith, here (c .before .before .before))
@@ -53,7 +57,8 @@ mul-row : tie.Need-mul-row Inv-loop μ-loop
 mul-row c = omega (arith, here (c .before .before .before))
 
 shared-slice-read-row : tie.Need-shared-slice-read-row Inv-loop μ-loop
-shared-slice-read-row c = omega (arith, here (c .before .before .before .before), c .before .before .before .before .before .loop .inv .some)
+shared-slice-read-row c = omega (arith, here (c .before .before .before .before),
+    c .before .before .before .before .before .loop .inv .some)
 
 mul-row-2 : tie.Need-mul-row-2 Inv-loop μ-loop
 mul-row-2 c = omega (arith, inside (c .before))
@@ -74,7 +79,8 @@ loop-less : tie.Need-loop-less Inv-loop μ-loop
 loop-less c = omega (arith, c .before .before .before .before .loop-test .taken)
 
 loop-again : tie.Need-loop-again Inv-loop μ-loop
-loop-again c = onward (c .before .before .before .before .before .loop .inv) (c .before .before .before .before .loop-test .taken) (c .before .if1 .left)
+loop-again c = onward (c .before .before .before .before .before .loop .inv)
+    (c .before .before .before .before .loop-test .taken) (c .before .if1 .left)
 
 same-length-2 : tie.Need-same-length-2 Inv-loop μ-loop
 same-length-2 c = c .before .loop .inv .size

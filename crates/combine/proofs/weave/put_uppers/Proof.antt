@@ -1,4 +1,5 @@
--- `combine::weave::put_uppers` meets its contract: the invariant says that what is written and what is left are the whole.
+-- `combine::weave::put_uppers` meets its contract: the invariant says that what is written and what is left are the
+-- whole.
 -- Assumes nothing.
 use native.Mathlib.Omega.{arith}
 use Prim.Native.Nat.{_+_, _-_, _≤_}
@@ -15,7 +16,8 @@ abbrev μ-loop : tie.MeasureT-loop
 
 -- the entry read, and the place of the one written
 module _ (c : tie.In-loop Inv-loop μ-loop) where
-  here : c .before .loop .at + (c .before .before .before .before .args .c + 2) ≤ length (c .before .before .before .before .args .w .now)
+  here : c .before .loop .at + (c .before .before .before .before .args .c + 2) ≤ length
+      (c .before .before .before .before .args .w .now)
   here = near (c .before .loop .inv) (c .loop-test .taken)
 
   place : c .before .loop .end + (c .before .before .before .before .args .c + 2) ≤ length (c .before .loop .out)
@@ -48,7 +50,8 @@ add-end : tie.Need-add-end Inv-loop μ-loop
 add-end c = omega (arith, here (c .before .before .before .before .before .before))
 
 add-end-2 : tie.Need-add-end-2 Inv-loop μ-loop
-add-end-2 c = omega (arith, place (c .before .before .before .before .before .before), c .before .before .before .before .before .before .before .before .before .before .good)
+add-end-2 c = omega (arith, place (c .before .before .before .before .before .before),
+    c .before .before .before .before .before .before .before .before .before .before .good)
 
 add-i : tie.Need-add-i Inv-loop μ-loop
 add-i c = omega (arith, c .before .before .before .before .before .before .loop-test .taken)

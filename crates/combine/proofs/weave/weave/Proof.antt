@@ -1,10 +1,10 @@
--- `combine::weave::weave` meets its contract: the invariant says that what is written and what the walk still leaves are the
+-- `combine::weave::weave` meets its contract: the invariant says that what is written and what the walk still leaves
+-- are the
 -- whole.
 -- Assumes nothing.
 use borrow.Author.Needs.{needs}
 use native.Mathlib.Omega.{arith}
-use mathlib.Core.Path.{_≡_, sym, _∙_}
-use mathlib.Core.Bool.{true, _&&_}
+use mathlib.Core.Path.{sym, _∙_}
 use Prim.Native.Nat.{_+_, _*_, _-_, _≤_, _<_}
 use lib.ListN.{length, getD}
 use lib.Dec.{ltb}
@@ -115,7 +115,8 @@ module _ (c : tie.In-loop Inv-loop μ-loop) where
       )
 
 -- after the loop
-totals : (c : tie.At-loop Inv-loop μ-loop) → let l = c .loop in let a = c .before .before .before .before .before .before .args in
+totals : (c : tie.At-loop Inv-loop μ-loop) → let l = c .loop in let a =
+    c .before .before .before .before .before .before .args in
     (l .i ≤ a .mr) × (l .j ≤ a .mw) × (l .m + ((a .mr - l .i) + (a .mw - l .j)) ≤ 1024)
 totals c =
     let g = c .loop .inv in
@@ -126,7 +127,8 @@ all-there : (c : tie.After-slice-known6 Inv-loop μ-loop) → let l = c .before 
     let a = c .before .before .before .before .before .before .before .before .before .before .before .args in
     Woven (a .c)
     (wovenLayer (a .keys .now) (a .mid .now) (layerOf (a .c) (a .mr) (a .r .now)) (layerOf (a .c) (a .mw) (a .w .now)))
-    (l .m + (a .mr - l .i) + (a .mw - l .j)) (a .out .now) (c .before .before .finish .last .1 .1 .1 .1 .1 .1 .1 .1 .1 .0)
+    (l .m + (a .mr - l .i) + (a .mw - l .j)) (a .out .now)
+        (c .before .before .finish .last .1 .1 .1 .1 .1 .1 .1 .1 .1 .0)
 all-there c =
     let s = c .before .before .before .before .before .before .before .before .before .before .before in
     let f = c .before .before .finish in
@@ -151,7 +153,8 @@ mul-o : tie.Need-mul-o Inv-loop μ-loop
 mul-o c = omega (arith, out-here c, c .before .before .before .before .before .before .before .good)
 
 next-step-requires : tie.Need-next-step-requires Inv-loop μ-loop
-next-step-requires c κs = (lower-alone (low c) (up c) (space c) (c .before .loop .inv) (inside c .0) (inside c .1), upper-alone (low c) (up c) (space c) (c .before .loop .inv) (inside c .0) (inside c .1))
+next-step-requires c κs = (lower-alone (low c) (up c) (space c) (c .before .loop .inv) (inside c .0) (inside c .1),
+    upper-alone (low c) (up c) (space c) (c .before .loop .inv) (inside c .0) (inside c .1))
 
 enum-told : tie.Need-enum-told Inv-loop μ-loop
 enum-told c = search needs
@@ -172,37 +175,52 @@ mul-one-if : tie.Need-mul-one-if Inv-loop μ-loop
 mul-one-if c = omega (arith, lower-here (c .before .before .before .before .before .before .before .before))
 
 shared-slice-read-one-if : tie.Need-shared-slice-read-one-if Inv-loop μ-loop
-shared-slice-read-one-if c = omega (arith, lower-here (c .before .before .before .before .before .before .before .before .before))
+shared-slice-read-one-if c =
+    omega (arith, lower-here (c .before .before .before .before .before .before .before .before .before))
 
 one-if-requires : tie.Need-one-if-requires Inv-loop μ-loop
 one-if-requires c κs = search needs
 
 add-adds : tie.Need-add-adds Inv-loop μ-loop
-add-adds c = omega (arith, counts (c .before .before .before .before .before .before .before .before .before .before), c .one-if .ensures .1)
+add-adds c = omega (arith, counts (c .before .before .before .before .before .before .before .before .before .before),
+    c .one-if .ensures .1)
 
 add-one-if-2 : tie.Need-add-one-if-2 Inv-loop μ-loop
-add-one-if-2 c = omega (arith, lower-here (c .before .before .before .before .before .before .before .before .before .before))
+add-one-if-2 c =
+    omega (arith, lower-here (c .before .before .before .before .before .before .before .before .before .before))
 
 mul-one-if-2 : tie.Need-mul-one-if-2 Inv-loop μ-loop
-mul-one-if-2 c = omega (arith, lower-here (c .before .before .before .before .before .before .before .before .before .before))
+mul-one-if-2 c =
+    omega (arith, lower-here (c .before .before .before .before .before .before .before .before .before .before))
 
 shared-slice-read-one-if-2 : tie.Need-shared-slice-read-one-if-2 Inv-loop μ-loop
-shared-slice-read-one-if-2 c = omega (arith, lower-here (c .before .before .before .before .before .before .before .before .before .before .before))
+shared-slice-read-one-if-2 c =
+    omega
+    (arith, lower-here (c .before .before .before .before .before .before .before .before .before .before .before))
 
 one-if-requires-2 : tie.Need-one-if-requires-2 Inv-loop μ-loop
 one-if-requires-2 c κs = search needs
 
 add-strikes : tie.Need-add-strikes Inv-loop μ-loop
-add-strikes c = omega (arith, counts (c .before .before .before .before .before .before .before .before .before .before .before .before), c .one-if2 .ensures .1)
+add-strikes c =
+    omega
+    (arith, counts (c .before .before .before .before .before .before .before .before .before .before .before .before),
+    c .one-if2 .ensures .1)
 
 add-i : tie.Need-add-i Inv-loop μ-loop
-add-i c = omega (arith, counts (c .before .before .before .before .before .before .before .before .before .before .before .before))
+add-i c =
+    omega
+    (arith, counts (c .before .before .before .before .before .before .before .before .before .before .before .before))
 
 add-m : tie.Need-add-m Inv-loop μ-loop
-add-m c = omega (arith, counts (c .before .before .before .before .before .before .before .before .before .before .before .before))
+add-m c =
+    omega
+    (arith, counts (c .before .before .before .before .before .before .before .before .before .before .before .before))
 
 loop-less : tie.Need-loop-less Inv-loop μ-loop
-loop-less c = omega (arith, inside (c .before .before .before .before .before .before .before .before .before .before .before .before))
+loop-less c =
+    omega
+    (arith, inside (c .before .before .before .before .before .before .before .before .before .before .before .before))
 
 loop-again : tie.Need-loop-again Inv-loop μ-loop
 loop-again c =
@@ -211,8 +229,10 @@ loop-again c =
     let s = c .one-if2 in
     let p = c .before .before .before .before .before .before .put-entry in
     on-lower (low t) (up t) (space t) (t .before .loop .inv) (inside t .0) (inside t .1)
-    (sym (c .before .before .before .before .before .before .before .before .before .enum-told .given .1) ∙ c .before .before .before .before .before .before .before .before .before .before .before .next-step .ensures)
-    (a .result) (s .result) (p .last .1 .1 .1 .1 .0) (a .ensures .0) (a .ensures .1) (s .ensures .0) (s .ensures .1) (p .ensures)
+    (sym (c .before .before .before .before .before .before .before .before .before .enum-told .given .1)
+        ∙ c .before .before .before .before .before .before .before .before .before .before .before .next-step .ensures)
+    (a .result) (s .result) (p .last .1 .1 .1 .1 .0) (a .ensures .0) (a .ensures .1) (s .ensures .0) (s .ensures .1)
+        (p .ensures)
 
 enum-told-2 : tie.Need-enum-told-2 Inv-loop μ-loop
 enum-told-2 c = search needs
@@ -224,7 +244,7 @@ shared-slice-read-rebase : tie.Need-shared-slice-read-rebase Inv-loop μ-loop
 shared-slice-read-rebase c = omega (arith, upper-here (c .before .before .before .before))
 
 rebase-requires : tie.Need-rebase-requires Inv-loop μ-loop
-rebase-requires c κs = let t = c .before .before .before .before in (low-here t, counts t .4)
+rebase-requires c κs = let t = c .before .before .before .before in (low-here t, omega (arith, counts t))
 
 put-entry-requires-2 : tie.Need-put-entry-requires-2 Inv-loop μ-loop
 put-entry-requires-2 c κs = let t = c .before .before .before .before .before .before in (upper-here t, room-here t)
@@ -244,7 +264,8 @@ loop-again-2 c =
     let b = c .before .before .before .before .rebase in
     let p = c .before .before .put-entry2 in
     on-upper (low t) (up t) (space t) (t .before .loop .inv) (inside t .0) (inside t .1)
-    (sym (c .before .before .before .before .before .before .enum-told2 .given .1) ∙ c .before .before .before .before .before .before .before .before .next-step .ensures)
+    (sym (c .before .before .before .before .before .before .enum-told2 .given .1)
+        ∙ c .before .before .before .before .before .before .before .before .next-step .ensures)
     (b .result) (p .last .1 .1 .1 .1 .0) (b .ensures) (p .ensures)
 
 enum-told-3 : tie.Need-enum-told-3 Inv-loop μ-loop
@@ -273,7 +294,8 @@ loop-again-3 c =
     let t = c .before .before .before .before .before .before .before .before in
     let p = c .before .before .put-entry3 in
     on-here (low t) (up t) (space t) (t .before .loop .inv) (inside t .0) (inside t .1)
-    (sym (c .before .before .before .before .before .enum-told3 .given .1) ∙ c .before .before .before .before .before .before .before .next-step .ensures)
+    (sym (c .before .before .before .before .before .enum-told3 .given .1)
+        ∙ c .before .before .before .before .before .before .before .next-step .ensures)
     (p .last .1 .1 .1 .1 .0) (p .ensures)
 
 enum-told-4 : tie.Need-enum-told-4 Inv-loop μ-loop
@@ -321,7 +343,8 @@ sub-put-patched c = omega (arith, c .before .before .before .before .loop .inv .
 put-patched-requires : tie.Need-put-patched-requires Inv-loop μ-loop
 put-patched-requires c κs =
     let t = c .before .before .before .before in
-    (lower-here t, upper-here t, room-here t, runs (low t) (up t) (space t) (t .before .loop .inv) (inside t .0) (inside t .1))
+    (lower-here t, upper-here t, room-here t, runs (low t) (up t) (space t) (t .before .loop .inv) (inside t .0)
+        (inside t .1))
 
 add-j-4 : tie.Need-add-j-4 Inv-loop μ-loop
 add-j-4 c =
@@ -350,7 +373,8 @@ loop-again-6 c =
     let t = c .before .before .before .before .before .before .before in
     let p = c .before .before .put-patched in
     on-patch (low t) (up t) (space t) (t .before .loop .inv) (inside t .0) (inside t .1)
-    (sym (c .before .before .before .before .enum-told6 .given .1) ∙ c .before .before .before .before .before .before .next-step .ensures)
+    (sym (c .before .before .before .before .enum-told6 .given .1)
+        ∙ c .before .before .before .before .before .before .next-step .ensures)
     (p .result) (p .last .1 .1 .1 .1 .1 .1 .0) (p .ensures .0) (p .ensures .1)
 
 mul-finish : tie.Need-mul-finish Inv-loop μ-loop
@@ -365,7 +389,8 @@ mul-finish c =
     )
 
 finish-requires : tie.Need-finish-requires Inv-loop μ-loop
-finish-requires c κs = let s = c .before .before .before .before .before .before .before .before in rests (low-at s) (up-at s) (s .pre .room) (c .before .before .loop .inv)
+finish-requires c κs = let s = c .before .before .before .before .before .before .before .before in rests (low-at s)
+    (up-at s) (s .pre .room) (c .before .before .loop .inv)
 
 sub-result : tie.Need-sub-result Inv-loop μ-loop
 sub-result c = omega (arith, totals (c .before .before .before .before .before))
