@@ -168,7 +168,7 @@ pub extern "C" fn kw_back(c: usize, n: usize, m: usize, layer: &[u64], r: usize)
 pub extern "C" fn kw_add(c: usize, m: usize, layer: &mut [u64], keys: &[u64], row: &[u64]) -> Told
     ensures { λ o. ⌜ Tells o (addAnswer c m (now (layer .entry)) (now (keys .entry)) (now (row .entry)))
         × (now (layer .exit) ≡ edited c m (addAnswer c m (now (layer .entry)) (now (keys .entry)) (now (row .entry)))
-            (addedLayer c m (now (layer .entry)) (now (keys .entry)) (now (row .entry))) (now (layer .entry))) ⌝ }
+        (addedLayer c m (now (layer .entry)) (now (keys .entry)) (now (row .entry))) (now (layer .entry))) ⌝ }
 {
     tell(edit::add(c, m, layer, keys, row))
 }
@@ -211,7 +211,7 @@ pub extern "C" fn kw_combine(
 ) -> Told
     ensures { λ o. ⌜ Tells o (combineAnswer c (now (keys .entry)) mr (now (r .entry)) mw (now (w .entry)) (length (now (out .entry))))
         × (now (out .exit) ≡ written (combineAnswer c (now (keys .entry)) mr (now (r .entry)) mw (now (w .entry)) (length (now (out .entry))))
-            (flat c (combinedLayer c (now (keys .entry)) mr (now (r .entry)) mw (now (w .entry)))) (now (out .entry))) ⌝ }
+        (flat c (combinedLayer c (now (keys .entry)) mr (now (r .entry)) mw (now (w .entry)))) (now (out .entry))) ⌝ }
 {
     tell(combine::combine(c, keys, mr, r, mw, w, out))
 }

@@ -111,8 +111,12 @@ module _ (c : ℕ) (K : List ℕ) (mR : ℕ) (rawR : List ℕ) (mW : ℕ) (rawW 
               rising = not-false _ rising;
               lower = omega (arith, ltb-false (fitPlace K R) (length R) lower-fit, layer-length c mR rawR);
               mid = refl;
-              upper = omega (arith, ltb-false (fitPlace (keysAfter K R) W) (length W) upper-fit, layer-length c
-                  mW rawW);
+              upper = omega (
+                arith,
+                ltb-false (fitPlace (keysAfter K R) W) (length W) upper-fit,
+                layer-length c
+                    mW rawW,
+              );
             };
             size = size;
             room-left = omega (arith, ltb-false (room c len) (length M) enough, size);
@@ -123,9 +127,9 @@ module _ (c m : ℕ) (xs K : List ℕ) (some : 1 ≤ c) (few : c ≤ 8) (base : 
     (room : m * (c + 2) ≤ length xs)
     (zeroed : (e : Entry) → Mem e (entriesOf c m xs) → zeros e ≡ true)
     (each : (e : Edit) → Mem e (layerOf c m xs) → sound c (length K) e ≡ true)
-        (pairs : AllPairs follows (layerOf c m xs))
+    (pairs : AllPairs follows (layerOf c m xs))
     (rows : rowsAfter (length K) (layerOf c m xs) ≤ 4096) (rising : ascending K ≡ true)
-        (fit : fits K (layerOf c m xs) ≡ true) where
+    (fit : fits K (layerOf c m xs) ≡ true) where
   args-pass : argsOk c (length K) m (length xs) ≡ true
   unfolding argsOk
   args-pass =
@@ -145,7 +149,7 @@ module _ (c m : ℕ) (xs K : List ℕ) (some : 1 ≤ c) (few : c ≤ 8) (base : 
   unfolding formPlace layerOf
   place =
       of-unbroken (λ e. zeros e && sound c (length K) (editOf e)) (λ d e. follows (editOf d) (editOf e)) []
-          (entriesOf c m xs)
+      (entriesOf c m xs)
       (record {
         each = λ e n. and-of (zeros e) (sound c (length K) (editOf e)) (zeroed e n)
             (each (editOf e) (mem-map editOf (entriesOf c m xs) e n));

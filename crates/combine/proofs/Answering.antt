@@ -133,8 +133,14 @@ module _ (c : ℕ) (K : List ℕ) (mR : ℕ) (rawR : List ℕ) (mW : ℕ) (rawW 
       unfolding fitsAnswer joinAnswer
       join-answer N n u =
           let q : mW ≤ fitPlace (keysAfter K R) W = subst (λ (L : List ℕ). mW ≤ fitPlace L W) n u in
-          rw (h, layer-length c mR rawR, le-ltb (fitPlace K R) mR l, layer-length c mW rawW, le-ltb
-              (fitPlace (keysAfter K R) W) mW q)
+          rw (
+            h,
+            layer-length c mR rawR,
+            le-ltb (fitPlace K R) mR l,
+            layer-length c mW rawW,
+            le-ltb
+                (fitPlace (keysAfter K R) W) mW q,
+          )
 
   -- refusal 1
   pub args-refused : argsOk c (length K) mR (length rawR) && argsOk c (length K) mW (length rawW) ≡ false
@@ -153,19 +159,19 @@ module _ (c : ℕ) (K : List ℕ) (mR : ℕ) (rawR : List ℕ) (mW : ℕ) (rawW 
     rest =
         let M = combinedLayer c K mR rawR mW rawW in
         badKeys K ∷ badFit 0 K R ∷ badFit 1000 (keysAfter K R) W ∷ noRoom c len M ∷ tooManyRows
-            (rowsAfter (length K) M) ∷ []
+        (rowsAfter (length K) M) ∷ []
 
     -- refusal 2, of the lower layer
     after-lower : answer ≡ onward Refused (formAnswer c (length K) mR rawR)
         (firstMet Refused (badForm 1000 c (rowsAfter (length K) R) mW rawW ∷ rest)
-            (Done (length (combinedLayer c K mR rawR mW rawW))))
+        (Done (length (combinedLayer c K mR rawR mW rawW))))
     unfolding combineAnswer rest
     after-lower =
         let z = Done (length (combinedLayer c K mR rawR mW rawW)) in
         let ts = badForm 1000 c (rowsAfter (length K) R) mW rawW ∷ rest in
         let a : answer ≡ firstMet Refused (badForm 0 c (length K) mR rawR ∷ ts) z = rw (ok) in
         let b : firstMet Refused (badArgs (argsOk c (length K) mR (length rawR)) ∷ badForm 0 c (length K) mR
-            rawR ∷ ts) z
+        rawR ∷ ts) z
         ≡ firstMet Refused (badForm 0 c (length K) mR rawR ∷ ts) z = rw (lower-ok) in
         a ∙ (sym b ∙ after-form Refused c (length K) mR rawR ts z)
 
@@ -173,7 +179,7 @@ module _ (c : ℕ) (K : List ℕ) (mR : ℕ) (rawR : List ℕ) (mW : ℕ) (rawW 
     lower-form-refused x e =
         sym (after-lower ∙ ap (λ (t : Answer). onward Refused t
         (firstMet Refused (badForm 1000 c (rowsAfter (length K) R) mW rawW ∷ rest)
-            (Done (length (combinedLayer c K mR rawR mW rawW))))) e)
+        (Done (length (combinedLayer c K mR rawR mW rawW))))) e)
 
     module _ (rows : ℕ) (e : formAnswer c (length K) mR rawR ≡ Done rows) where
       low : Accepted c (length K) mR rawR rows
@@ -192,14 +198,14 @@ module _ (c : ℕ) (K : List ℕ) (mR : ℕ) (rawR : List ℕ) (mW : ℕ) (rawW 
           let z = Done (length (combinedLayer c K mR rawR mW rawW)) in
           after-lower
           ∙ (ap (λ (t : Answer). onward Refused t (firstMet Refused
-              (badForm 1000 c (rowsAfter (length K) R) mW rawW ∷ rest) z)) e
+          (badForm 1000 c (rowsAfter (length K) R) mW rawW ∷ rest) z)) e
           ∙ form-row Refused 1000 c (rowsAfter (length K) R) mW rawW rest z rows-ok)
 
       pub upper-form-refused : (y : Refusal) → formAnswer c rows mW rawW ≡ Refused y
           → Refused (refusal (y .number) (1000 + y .place)) ≡ answer
       upper-form-refused y u =
           sym (after-upper ∙ ap (λ (t : Answer). onward (λ x. Refused (raised 1000 x)) t
-              (fitsAnswer c K mR rawR mW rawW len))
+          (fitsAnswer c K mR rawR mW rawW len))
           (ap (λ (n : ℕ). formAnswer c n mW rawW) (sym (low .shown)) ∙ u))
 
       pub upper-place : (y : Refusal) → formAnswer c rows mW rawW ≡ Refused y → y .place ≤ 512
@@ -221,5 +227,5 @@ module _ (c : ℕ) (K : List ℕ) (mR : ℕ) (rawR : List ℕ) (mW : ℕ) (rawW 
         pub fits-answer : fitsAnswer c K mR rawR mW rawW len ≡ answer
         fits-answer =
             sym (after-upper ∙ ap (λ (t : Answer). onward (λ x. Refused (raised 1000 x)) t
-                (fitsAnswer c K mR rawR mW rawW len))
+            (fitsAnswer c K mR rawR mW rawW len))
             (ap (λ (n : ℕ). formAnswer c n mW rawW) (sym (low .shown)) ∙ u))

@@ -51,7 +51,7 @@ put-first x p ys old new o h e =
 -- an entry written at another position
 pub put-entry : (c p from o : ℕ) (xs old new : List ℕ) → from + (c + 2) ≤ length xs → o + (c + 2) ≤ length old
     → new ≡ paste old o (take (from + (c + 2) - from) (drop from xs))
-        (length (take (from + (c + 2) - from) (drop from xs)))
+    (length (take (from + (c + 2) - from) (drop from xs)))
     → Put (p ∷ getD xs (from + 1) 0 ∷ take c (drop (from + 2) xs)) old o (set new o p)
 put-entry c p from o xs old new h k e =
     let ys = getD xs (from + 1) 0 ∷ take c (drop (from + 2) xs) in

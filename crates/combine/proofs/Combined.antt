@@ -44,7 +44,7 @@ module _ (T : Table) (R W : Layer) (a : AscFrom key 0 T) (FR : Fit T R) (FW : Fi
   -- the counting identity
   counted : (f : Edit) → Mem f W
       → position f + 0 + count (strikeBelow (keyOf N f)) R ≡ keysBelow (keyOf N f) K + 0 + count
-          (addBelow (keyOf N f)) R
+      (addBelow (keyOf N f)) R
   counted f m = omega (
     arith,
     key-position (read T R) W rising FW f m,
@@ -80,7 +80,7 @@ module _ (T : Table) (R W : Layer) (a : AscFrom key 0 T) (FR : Fit T R) (FW : Fi
             λ s x.
                 let w = FR .strikes s k x in
                 true≢false (sym (ap (λ (i : ℕ). struck i R) (asc-same key T a n (w .1) (kr ∙ sym (w .2)))
-                    ∙ struck-of s k R x) ∙ u),
+                ∙ struck-of s k R x) ∙ u),
           )
 
   upper-stands : (f : Edit) → Mem f W → addsRow (deed f) ≡ false → Stands K R (keyOf N f)
@@ -131,7 +131,7 @@ pub record Combines (c : ℕ) (K : List ℕ) (R W : Layer) : Type 0 where
 over-keys : (c : ℕ) (T : Table) (R W : Layer) → ascending (keys T) ≡ true → inOrder c (length (keys T)) R ≡ true
     → fits (keys T) R ≡ true
     → inOrder c (rowsAfter (length (keys T)) R) W ≡ true → fits (keysAfter (keys T) R) W ≡ true
-        → Combines c (keys T) R W
+    → Combines c (keys T) R W
 over-keys c T R W h fr gr fw gw =
     let n = keys-length T in
     let a = asc-of key T h in

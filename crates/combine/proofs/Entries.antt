@@ -65,7 +65,7 @@ key-named K e h = go (eqb (e .kind) ADD) (eqb (e .kind) STRIKE) h
   where
     go : (a b : Bool) → a || b ≡ true
         → keyOf K (at (e .pos) (cond a (add (e .vals)) (cond b (strike (getD (e .vals) 0 0))
-            (change (e .kind) (to (getD (e .vals) 0 0))))))
+        (change (e .kind) (to (getD (e .vals) 0 0))))))
         ≡ getD (e .vals) 0 0
     go true b z = refl
     go false true z = refl
@@ -96,7 +96,7 @@ entry-run c from xs h =
     let two : c + 2 ≡ suc (suc c) = omega arith in
     let a : drop from xs ≡ getD xs from 0 ∷ drop (suc from) xs = drop-cons xs from 0 (omega arith) in
     let b : drop (suc from) xs ≡ getD xs (suc from) 0 ∷ drop (suc (suc from)) xs =
-        drop-cons xs (suc from) 0 (omega arith) in
+    drop-cons xs (suc from) 0 (omega arith) in
     let f : from + 1 ≡ suc from = omega arith in
     let g : from + 2 ≡ suc (suc from) = omega arith in
     rw (two, a, b, f, g)
@@ -109,9 +109,9 @@ module _ (p : ℕ) (e : Entry) (U : Layer) where
     where
       go : (a b t : Bool) → eqb (e .pos) p ≡ t → not t || (a || b) ≡ true
           → (changesAhead p (at (e .pos) (cond a (add (e .vals))
-              (cond b (strike (getD (e .vals) 0 0)) (change (e .kind) (to (getD (e .vals) 0 0))))) ∷ U) ≡ 0)
+          (cond b (strike (getD (e .vals) 0 0)) (change (e .kind) (to (getD (e .vals) 0 0))))) ∷ U) ≡ 0)
           × ((row : List ℕ) → patched p (at (e .pos) (cond a (add (e .vals))
-              (cond b (strike (getD (e .vals) 0 0)) (change (e .kind) (to (getD (e .vals) 0 0))))) ∷ U) row ≡ row)
+          (cond b (strike (getD (e .vals) 0 0)) (change (e .kind) (to (getD (e .vals) 0 0))))) ∷ U) row ≡ row)
       go true b t f z = (refl, λ r. refl)
       go false true t f z = (refl, λ r. refl)
       go false false true f z = absurd (true≢false (sym z))

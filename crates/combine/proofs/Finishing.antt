@@ -57,6 +57,6 @@ module _ {c mR i : ℕ} {r : List ℕ} {mW j : ℕ} {w : List ℕ} {strikes o : 
       let Z = map (rebased adds strikes) (lefts c mW j w) in
       let n = left-numbers c mR r i (g .lower-upto) (g .lower .room) (g .lower .some) (g .lower-zeroed) in
       subst (λ (t : List ℕ). Put t out o new) (sym (flat-append c (lefts c mR i r) Z
-          ∙ ap (λ (t : List ℕ). t ++ flat c Z) n))
+      ∙ ap (λ (t : List ℕ). t ++ flat c Z) n))
       (put-both part (flat c Z) out mid new o (put-paste part out mid o part-room e)
-          (subst (λ (k : ℕ). Put (flat c Z) mid k new) f put))
+      (subst (λ (k : ℕ). Put (flat c Z) mid k new) f put))

@@ -111,7 +111,7 @@ module _ {c : ℕ} {K N : List ℕ} {mR : ℕ} {rawR : List ℕ} {mW : ℕ} {raw
     pub numbers : take (m * (c + 2)) new ≡ flat c M
     numbers =
         let e : m * (c + 2) ≡ length (flat c (wovenLayer K N R W)) =
-            size ∙ ap (λ (L : Layer). length (flat c L)) (sym same) in
+        size ∙ ap (λ (L : Layer). length (flat c L)) (sym same) in
         ap (λ (k : ℕ). take k new) e ∙ (g .front ∙ ap (flat c) same)
 
     -- refusal 9
@@ -122,8 +122,12 @@ module _ {c : ℕ} {K N : List ℕ} {mR : ℕ} {rawR : List ℕ} {mW : ℕ} {raw
     -- refusal 10 is not met
     pub enough : (len k : ℕ) → k ≡ room c len → m ≤ k → Done m ≡ joinAnswer c K mR rawR mW rawW len
     unfolding joinAnswer
-    enough len k e h = rw (le-ltb (room c len) (length M) (omega (arith, entries)), le-ltb mostRows
-        (rowsAfter (length K) M) rows-few, entries)
+    enough len k e h = rw (
+      le-ltb (room c len) (length M) (omega (arith, entries)),
+      le-ltb mostRows
+          (rowsAfter (length K) M) rows-few,
+      entries,
+    )
 
     pub there : (len k : ℕ) → k ≡ room c len → m ≤ k → m * (c + 2) ≤ len
     there len k e h = (room-fits c len m (omega arith)) .1

@@ -83,7 +83,7 @@ module _ (T : Table) (L : Layer) (a : AscFrom key 0 T) (F : Fit T L) where
           go : (p < s) ⊎ ((p ≡ s) × (deedBefore d e ≡ true)) → keyed K (at p d) (at s e) ≡ true
           go (inl l) = lex-lt (keyOf K (at p d)) (keyOf K (at s e)) (then d e)
               (count-rise key T (keyOf K (at p d)) (keyOf K (at s e))
-                  (omega (arith, position-of T L a F p d m, position-of T L a F s e n)))
+              (omega (arith, position-of T L a F p d m, position-of T L a F s e n)))
           go (inr w) =
               subst (λ (x : ℕ). keyed K (at x d) (at s e) ≡ true) (sym (w .0))
               (one-place s d e (subst (λ (x : ℕ). Mem (at x d) L) (w .0) m) n (w .1))
@@ -159,9 +159,9 @@ module _ (K : List ℕ) where
       go true h =
           let l : keyOf K e < keyOf K f = ltb-true (keyOf K e) (keyOf K f) h in
           let n : meaning K (f ∷ M) (keyOf K e) ≡ [] = meaning-none (f ∷ M) (keyOf K e)
-              (λ x m g. omega (arith, on x m)) in
+          (λ x m g. omega (arith, on x m)) in
           let p : deed e ∷ meaning K L (keyOf K e) ≡ [] = sym (meaning-here e L (keyOf K e) refl)
-              ∙ (same (keyOf K e) ∙ n) in
+          ∙ (same (keyOf K e) ∙ n) in
           absurd (let z : _≡_ {A = ℕ} 0 1 = cc in omega arith)
         where
           on : (x : Edit) → Mem x (f ∷ M) → keyOf K f ≤ keyOf K x
@@ -173,16 +173,20 @@ module _ (K : List ℕ) where
   one-list b [] [] o p s t same = refl
   one-list b [] (f ∷ M) o p s t same =
       let q : [] ≡ deed f ∷ meaning K M (keyOf K f) = sym (meaning-nil (keyOf K f))
-          ∙ (same (keyOf K f) ∙ meaning-here f M (keyOf K f) refl) in
+      ∙ (same (keyOf K f) ∙ meaning-here f M (keyOf K f) refl) in
       absurd (let z : _≡_ {A = ℕ} 0 1 = cc in omega arith)
   one-list b (e ∷ L) [] o p s t same =
       let q : deed e ∷ meaning K L (keyOf K e) ≡ [] = sym (meaning-here e L (keyOf K e) refl)
-          ∙ (same (keyOf K e) ∙ meaning-nil (keyOf K e)) in
+      ∙ (same (keyOf K e) ∙ meaning-nil (keyOf K e)) in
       absurd (let z : _≡_ {A = ℕ} 0 1 = cc in omega arith)
   one-list b (at s d ∷ L) (at p g ∷ M) oL oM sL sM same =
       heads (keyOf K (at s d)) refl
-      (omega (arith, first-key (at s d) (at p g) L M (oM .1) same, first-key (at p g) (at s d) M L (oL .1)
-          (λ k. sym (same k))))
+      (omega (
+        arith,
+        first-key (at s d) (at p g) L M (oM .1) same,
+        first-key (at p g) (at s d) M L (oL .1)
+            (λ k. sym (same k)),
+      ))
       (λ k o q t. one-list k L M o q (λ e m. sL e (next m)) (λ e m. sM e (next m)) t)
     where
       heads : (k : ℕ) → keyOf K (at s d) ≡ k → keyOf K (at p g) ≡ k
@@ -193,7 +197,7 @@ module _ (K : List ℕ) where
           sym (meaning-here (at s d) L k h) ∙ (same k ∙ meaning-here (at p g) M k h′) in
           let dg : d ≡ g = cc in
           let sp : s ≡ p = sL (at s d) (here refl) ∙ (ap (λ (l : ℕ). keysBelow l K) (h ∙ sym h′)
-              ∙ sym (sM (at p g) (here refl))) in
+          ∙ sym (sM (at p g) (here refl))) in
           let rest : L ≡ M =
           ih k (subst (λ (l : ℕ). KeysFrom l L) h (oL .1)) (subst (λ (l : ℕ). KeysFrom l M) h′ (oM .1)) tails in
           cc

@@ -34,7 +34,7 @@ module _ (c m : ℕ) (xs : List ℕ) where
   pub left-step : (i : ℕ) → i < m → lefts c m i xs ≡ editOf (entryAt c (i * (c + 2)) xs) ∷ lefts c m (i + 1) xs
   left-step i h =
       let e : i * (c + 2) + (c + 2) ≡ (i + 1) * (c + 2) = omega
-          (arith, suc-mul i (c + 2), add-mul i 1 (c + 2), suc-mul 0 (c + 2), zero-mul (c + 2)) in
+      (arith, suc-mul i (c + 2), add-mul i 1 (c + 2), suc-mul 0 (c + 2), zero-mul (c + 2)) in
       ap (map editOf) (rest-step c m i (i * (c + 2)) xs h
       ∙ ap (λ (k : ℕ). entryAt c (i * (c + 2)) xs ∷ entriesAt c (m - (i + 1)) k xs) e)
 
@@ -54,7 +54,7 @@ module _ (c m : ℕ) (xs : List ℕ) where
   left-drop (suc k) i h =
       let n : i + 1 + k ≡ i + suc k = omega arith in
       ap (drop (suc k)) (left-step i (omega arith)) ∙ (left-drop k (i + 1) (omega arith)
-          ∙ ap (λ (t : ℕ). lefts c m t xs) n)
+      ∙ ap (λ (t : ℕ). lefts c m t xs) n)
 
   pub left-in : (i : ℕ) → i ≤ m → (e : Entry) → Mem e (entriesLeft c m i xs) → Mem e (entriesOf c m xs)
   left-in i h e n =

@@ -51,15 +51,17 @@ set-out {c} {p} {m} {start} {w} {row} r = record {
 abbrev pub Made : ℕ → ℕ → ℕ → ℕ → List ℕ → List ℕ → ℕ → List ℕ → Type 0
 Made c p m start w row₀ i row =
     (i ≡ changesAhead p (map editOf (entriesAt c m start w)))
-        × (row ≡ patched p (map editOf (entriesAt c m start w)) row₀)
+    × (row ≡ patched p (map editOf (entriesAt c m start w)) row₀)
 
 module _ {c p m start : ℕ} {w row₀ : List ℕ} {i from : ℕ} {row : List ℕ}
     (g : Patching c p m start w row₀ i from row) where
   pub ended : m ≤ i → Made c p m start w row₀ i row
   ended h =
-      let e = edits-end c m i from w h in
-      (sym (g .made ∙ (ap (λ (t : Layer). i + changesAhead p t) e ∙ omega arith)), sym
-          (g .rows ∙ ap (λ (t : Layer). patched p t row) e))
+      let e = edits-end c m i from w h in (
+        sym (g .made ∙ (ap (λ (t : Layer). i + changesAhead p t) e ∙ omega arith)),
+        sym
+            (g .rows ∙ ap (λ (t : Layer). patched p t row) e),
+      )
 
   module _ (h : i < m) where
     pub near : from + (c + 2) ≤ length w
@@ -87,7 +89,7 @@ module _ {c p m start : ℕ} {w row₀ : List ℕ} {i from : ℕ} {row : List �
       column =
           let k = g .columns (entryAt c from w .pos) (entryAt c from w .kind) (to (getD (entryAt c from w .vals) 0 0))
           (subst (λ (l : Layer). Mem (at (entryAt c from w .pos)
-              (change (entryAt c from w .kind) (to (getD (entryAt c from w .vals) 0 0)))) l)
+          (change (entryAt c from w .kind) (to (getD (entryAt c from w .vals) 0 0)))) l)
           (sym step) (here (sym is-change))) in
           omega (arith, k, g .size)
 
@@ -105,7 +107,7 @@ module _ {c p m start : ℕ} {w row₀ : List ℕ} {i from : ℕ} {row : List �
                 ∙ (ap (λ (k : ℕ). i + k) (s .0) ∙ omega arith));
             rows = g .rows ∙ (ap (λ (l : Layer). patched p l row) step
                 ∙ (s .1 row ∙ ap (λ (x : ℕ). patched p (left c m (i + 1) (from + (c + 2)) w)
-                    (set row (entryAt c from w .kind) x)) v));
+                (set row (entryAt c from w .kind) x)) v));
             columns = λ a j e n. g .columns a j e (subst (λ (l : Layer). Mem (at a (change j e)) l) (sym step)
                 (next n));
           }

@@ -77,7 +77,7 @@ module _ {c m start : ℕ} {w : List ℕ} {adds strikes : ℕ} {out₀ : List �
   ended h =
       let none : flat c (map (rebased adds strikes) (map editOf (entriesAt c (m - i) from w))) ≡ [] =
       ap (λ (t : List Entry). flat c (map (rebased adds strikes) (map editOf t))) (rest-end c m i from w h)
-          ∙ flat-nil c in
+      ∙ flat-nil c in
       let F = flat c (map (rebased adds strikes) (map editOf (entriesAt c m start w))) in
       let all : take o out₀ ++ F ≡ take end out =
       g .front ∙ (ap (λ (t : List ℕ). take end out ++ t) none ∙ append-nil (take end out)) in
@@ -117,7 +117,7 @@ module _ {c m start : ℕ} {w : List ℕ} {adds strikes : ℕ} {out₀ : List �
         let ys = p ∷ E .kind ∷ E .vals in
         let nums : numbersOf c (rebased adds strikes (editOf E)) ≡ ys =
         ap (λ (q : ℕ). numbersOf c (at q (deedOf (E .kind) (E .vals)))) (sym e)
-            ∙ numbers-placed c p E lv (g .some) (g .zeroed E first) in
+        ∙ numbers-placed c p E lv (g .some) (g .zeroed E first) in
         let rest : flat c (map (rebased adds strikes) (map editOf (entriesAt c (m - i) from w)))
         ≡ ys ++ flat c (map (rebased adds strikes) U) =
         ap (λ (t : List Entry). flat c (map (rebased adds strikes) (map editOf t))) step
@@ -136,6 +136,6 @@ module _ {c m start : ℕ} {w : List ℕ} {adds strikes : ℕ} {out₀ : List �
           below = λ x m. g .below x (subst (λ (t : List Entry). Mem x t) (sym step) (next m));
           front = front-on (take o out₀ ++ flat c (map (rebased adds strikes) (map editOf (entriesAt c m start w)))) ys
               (flat c (map (rebased adds strikes) U)) out new end
-                  (g .front ∙ ap (λ (t : List ℕ). take end out ++ t) rest) put
+              (g .front ∙ ap (λ (t : List ℕ). take end out ++ t) rest) put
               ∙ ap (λ (k : ℕ). take k new ++ flat c (map (rebased adds strikes) U)) n;
         }

@@ -81,12 +81,12 @@ module _ (c : ℕ) (T : Table) (mR : ℕ) (rawR : List ℕ) (mW : ℕ) (rawW out
   lower-good : Good c T R
   lower-good =
       good-of c T R asc (subst (λ (n : ℕ). inOrder c n R ≡ true) (keys-length T) (low F .ordered))
-          (fits-of K R mR (low F .size) (F .lower))
+      (fits-of K R mR (low F .size) (F .lower))
 
   over-good : Good c (read T R) W
   over-good =
       upper-good c T R W asc lower-good (subst (λ (n : ℕ). inOrder c (rowsAfter n R) W ≡ true) (keys-length T)
-          (up F .ordered))
+      (up F .ordered))
       (fits-of (keysAfter K R) W mW (up F .size) (F .upper))
 
   written-out : out′ ≡ flat c M ++ drop (length (flat c M)) out
@@ -95,7 +95,7 @@ module _ (c : ℕ) (T : Table) (mR : ℕ) (rawR : List ℕ) (mW : ℕ) (rawW out
   back : layerOf c m out′ ≡ M
   back = ap (layerOf c m) written-out
       ∙ read-back c (length K) (low F .held .some) (low F .held .columns) m M (drop (length (flat c M)) out) (A .size)
-          (joins F .each)
+      (joins F .each)
 
   numbers : length (flat c M) ≡ m * (c + 2)
   numbers = flat-size F ∙ ap (λ (k : ℕ). k * (c + 2)) (A .size)
@@ -113,21 +113,21 @@ module _ (c : ℕ) (T : Table) (mR : ℕ) (rawR : List ℕ) (mW : ℕ) (rawW out
     fitted = subst (λ (L : Layer). fits K L ≡ true) (sym back) (combine-fits c T R W asc lower-good over-good);
     again =
         accepted-again c m out′ K (low F .held .some) (low F .held .columns) (low F .base)
-            (room-fits c (length out) m (A .room-left) .0) fits-in
+        (room-fits c (length out) m (A .room-left) .0) fits-in
         (subst (λ (xs : List ℕ). (e : Entry) → Mem e (entriesOf c m xs) → zeros e ≡ true) (sym written-out)
         (zeros-back c (length K) (low F .held .some) (low F .held .columns) m M (drop (length (flat c M)) out) (A .size)
-            (joins F .each)))
+        (joins F .each)))
         (subst (λ (L : Layer). (e : Edit) → Mem e L → sound c (length K) e ≡ true) (sym back) (joins F .each))
         (subst (AllPairs follows) (sym back)
         (pairs-weaker before follows M (λ x y p q h. before-follows x y h)
-            (combine-good c T R W asc lower-good over-good .fit .sorted)))
+        (combine-good c T R W asc lower-good over-good .fit .sorted)))
         (subst (λ (L : Layer). rowsAfter (length K) L ≤ 4096) (sym back) (rows-few F)) (F .rising)
         (subst (λ (L : Layer). fits K L ≡ true) (sym back) (combine-fits c T R W asc lower-good over-good));
     reads = ap (read T) back ∙ combine-reads c T R W asc lower-good over-good;
     behind =
         ap (drop (m * (c + 2))) written-out
         ∙ (drop-at (flat c M) (drop (length (flat c M)) out) (m * (c + 2)) numbers
-            ∙ ap (λ (k : ℕ). drop k out) numbers);
+        ∙ ap (λ (k : ℕ). drop k out) numbers);
   }
 
   -- each column by itself

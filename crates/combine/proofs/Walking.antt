@@ -151,12 +151,15 @@ position-upto c n e h = go (eqb (e .kind) ADD) (eqb (e .kind) STRIKE) h
   where
     go : (a b : Bool)
         → sound c n (at (e .pos) (cond a (add (e .vals)) (cond b (strike (getD (e .vals) 0 0))
-            (change (e .kind) (to (getD (e .vals) 0 0)))))) ≡ true
+        (change (e .kind) (to (getD (e .vals) 0 0)))))) ≡ true
         → e .pos ≤ n
     go true b z = leb-true (e .pos) n (and-l (leb (e .pos) n) (eqb (length (e .vals)) c) z)
     go false true z = omega (arith, ltb-true (e .pos) n z)
-    go false false z = omega (arith, ltb-true (e .pos) n (and-l (ltb (e .pos) n)
-        (leb 1 (e .kind) && ltb (e .kind) c) z))
+    go false false z = omega (
+      arith,
+      ltb-true (e .pos) n (and-l (ltb (e .pos) n)
+          (leb 1 (e .kind) && ltb (e .kind) c) z),
+    )
 
 -- so many numbers can be taken only where there are so many
 taken-fits : (n : ℕ) (xs : List ℕ) → length (take n xs) ≡ n → n ≤ length xs
@@ -164,7 +167,7 @@ taken-fits n xs h = omega (arith, length-take n xs)
 
 module _ {c : ℕ} {K N : List ℕ} {mR : ℕ} {r : List ℕ} {mW : ℕ} {w out₀ : List ℕ} {rows : ℕ}
     (AR : Accepted c (length K) mR r (length N)) (AW : Accepted c (length N) mW w rows)
-        (space : (mR + mW) * (c + 2) ≤ length out₀)
+    (space : (mR + mW) * (c + 2) ≤ length out₀)
     {i j m adds strikes : ℕ} {out : List ℕ} (g : Walking c K N mR r mW w out₀ i j m adds strikes out) where
   abbrev whole : Layer
   whole = wovenLayer K N (layerOf c mR r) (layerOf c mW w)
@@ -183,7 +186,7 @@ module _ {c : ℕ} {K N : List ℕ} {mR : ℕ} {r : List ℕ} {mW : ℕ} {w out�
   -- some edits are passed and nothing is written
   silent : (n i′ j′ a′ s′ : ℕ)
       → woven (g .fuel) K N adds strikes (lefts c mR i r) (lefts c mW j w)
-          ≡ woven n K N a′ s′ (lefts c mR i′ r) (lefts c mW j′ w)
+      ≡ woven n K N a′ s′ (lefts c mR i′ r) (lefts c mW j′ w)
       → i ≤ i′ → i′ ≤ mR → j ≤ j′ → j′ ≤ mW → a′ ≤ i′ → s′ ≤ i′ → (mR - i′) + (mW - j′) ≤ n
       → Walking c K N mR r mW w out₀ i′ j′ m a′ s′ out
   silent n i′ j′ a′ s′ e hi li hj lj ha hs hn = record {
@@ -202,7 +205,7 @@ module _ {c : ℕ} {K N : List ℕ} {mR : ℕ} {r : List ℕ} {mW : ℕ} {w out�
   -- some are passed and one is written
   emitted : (n i′ j′ a′ s′ : ℕ) (x : Edit) (ys new : List ℕ)
       → woven (g .fuel) K N adds strikes (lefts c mR i r) (lefts c mW j w)
-          ≡ x ∷ woven n K N a′ s′ (lefts c mR i′ r) (lefts c mW j′ w)
+      ≡ x ∷ woven n K N a′ s′ (lefts c mR i′ r) (lefts c mW j′ w)
       → numbersOf c x ≡ ys → length ys ≡ c + 2 → Put ys out (m * (c + 2)) new
       → i ≤ i′ → i′ ≤ mR → j ≤ j′ → j′ ≤ mW → i + j < i′ + j′ → a′ ≤ i′ → s′ ≤ i′ → (mR - i′) + (mW - j′) ≤ n
       → Walking c K N mR r mW w out₀ i′ j′ (m + 1) a′ s′ new
@@ -293,7 +296,7 @@ module _ {c : ℕ} {K N : List ℕ} {mR : ℕ} {r : List ℕ} {mW : ℕ} {w out�
               ∙ (ap (woven (suc n) K N adds strikes (editOf E ∷ lefts c mR (i + 1) r)) (left-step c mW w j l)
               ∙ (one-step n K N adds strikes (editOf E) (editOf F) (lefts c mR (i + 1) r) (lefts c mW (j + 1) w)
               ∙ ap (outcome n K N adds strikes (editOf E) (editOf F) (lefts c mR (i + 1) r) (lefts c mW (j + 1) w))
-                  (sym e))),
+              (sym e))),
         )
 
     back-lower : editOf E ∷ lefts c mR (i + 1) r ≡ lefts c mR i r
@@ -311,43 +314,43 @@ module _ {c : ℕ} {K N : List ℕ} {mR : ℕ} {r : List ℕ} {mW : ℕ} {w out�
         let n = v .0 in
         let ha : adds + one (isAdd (editOf E)) ≡ adds + a = ap (λ (t : ℕ). adds + t) (ap one (add-kind E) ∙ sym ea) in
         let hs : strikes + one (isStrike (editOf E)) ≡ strikes + s =
-            ap (λ (t : ℕ). strikes + t) (ap one (strike-kind E) ∙ sym es) in
+        ap (λ (t : ℕ). strikes + t) (ap one (strike-kind E) ∙ sym es) in
         emitted n (i + 1) j (adds + a) (strikes + s) (editOf E) (E .pos ∷ E .kind ∷ E .vals) new
         (v .2 ∙ (ap (λ (x : ℕ). editOf E ∷ woven n K N x (strikes + one (isStrike (editOf E))) (lefts c mR (i + 1) r)
-            (editOf F ∷ lefts c mW (j + 1) w)) ha
+        (editOf F ∷ lefts c mW (j + 1) w)) ha
         ∙ (ap (λ (x : ℕ). editOf E ∷ woven n K N (adds + a) x (lefts c mR (i + 1) r)
-            (editOf F ∷ lefts c mW (j + 1) w)) hs
+        (editOf F ∷ lefts c mW (j + 1) w)) hs
         ∙ ap (λ (t : Layer). editOf E ∷ woven n K N (adds + a) (strikes + s) (lefts c mR (i + 1) r) t) back-upper)))
         (lower-numbers (E .pos)) (lower-width (E .pos)) put
         (omega arith) (omega arith) (omega arith) (g .upper-upto) (omega arith) (omega (arith, g .few-adds))
-            (omega (arith, g .few-strikes))
+        (omega (arith, g .few-strikes))
         (omega (arith, v .1))
 
     pub on-upper : Upper ≡ stepOf K N (editOf E) (editOf F) → (p : ℕ) (new : List ℕ) → p ≡ (F .pos + strikes) - adds
         → Put (p ∷ F .kind ∷ F .vals) out (m * (c + 2)) new → Walking c K N mR r mW w out₀ i (j + 1) (m + 1) adds
-            strikes new
+        strikes new
     on-upper e p new ep put =
         let v = turned Upper e in
         let n = v .0 in
         emitted n i (j + 1) adds strikes (placed ((F .pos + strikes) - adds) (editOf F)) (p ∷ F .kind ∷ F .vals) new
         (v .2 ∙ ap (λ (t : Layer). placed ((F .pos + strikes) - adds) (editOf F) ∷ woven n K N adds strikes t
-            (lefts c mW (j + 1) w)) back-lower)
+        (lefts c mW (j + 1) w)) back-lower)
         (upper-numbers ((F .pos + strikes) - adds) ∙ ap (λ (t : ℕ). t ∷ F .kind ∷ F .vals) (sym ep)) (upper-width p) put
         (omega arith) (g .lower-upto) (omega arith) (omega arith) (omega arith) (g .few-adds) (g .few-strikes)
-            (omega (arith, v .1))
+        (omega (arith, v .1))
 
     pub on-here : UpperHere ≡ stepOf K N (editOf E) (editOf F) → (new : List ℕ)
         → Put (E .pos ∷ F .kind ∷ F .vals) out (m * (c + 2)) new
-            → Walking c K N mR r mW w out₀ i (j + 1) (m + 1) adds strikes new
+        → Walking c K N mR r mW w out₀ i (j + 1) (m + 1) adds strikes new
     on-here e new put =
         let v = turned UpperHere e in
         let n = v .0 in
         emitted n i (j + 1) adds strikes (placed (E .pos) (editOf F)) (E .pos ∷ F .kind ∷ F .vals) new
         (v .2 ∙ ap (λ (t : Layer). placed (E .pos) (editOf F) ∷ woven n K N adds strikes t (lefts c mW (j + 1) w))
-            back-lower)
+        back-lower)
         (upper-numbers (E .pos)) (upper-width (E .pos)) put
         (omega arith) (g .lower-upto) (omega arith) (omega arith) (omega arith) (g .few-adds) (g .few-strikes)
-            (omega (arith, v .1))
+        (omega (arith, v .1))
 
     pub on-drop : Drop ≡ stepOf K N (editOf E) (editOf F) → Walking c K N mR r mW w out₀ (i + 1) j m adds strikes out
     on-drop e =
@@ -355,7 +358,7 @@ module _ {c : ℕ} {K N : List ℕ} {mR : ℕ} {r : List ℕ} {mW : ℕ} {w out�
         let n = v .0 in
         silent n (i + 1) j adds strikes (v .2 ∙ ap (woven n K N adds strikes (lefts c mR (i + 1) r)) back-upper)
         (omega arith) (omega arith) (omega arith) (g .upper-upto) (omega (arith, g .few-adds))
-            (omega (arith, g .few-strikes)) (omega (arith, v .1))
+        (omega (arith, g .few-strikes)) (omega (arith, v .1))
 
     pub on-vanish : Vanish ≡ stepOf K N (editOf E) (editOf F)
         → Walking c K N mR r mW w out₀ (i + 1) (j + 1) m (adds + 1) strikes out
@@ -363,7 +366,7 @@ module _ {c : ℕ} {K N : List ℕ} {mR : ℕ} {r : List ℕ} {mW : ℕ} {w out�
         let v = turned Vanish e in
         silent (v .0) (i + 1) (j + 1) (adds + 1) strikes (v .2)
         (omega arith) (omega arith) (omega arith) (omega arith) (omega (arith, g .few-adds))
-            (omega (arith, g .few-strikes)) (omega (arith, v .1))
+        (omega (arith, g .few-strikes)) (omega (arith, v .1))
 
     -- the upper layer's changes are of columns
     pub runs : Run c (mW - j) (j * (c + 2)) w c
@@ -397,14 +400,14 @@ module _ {c : ℕ} {K N : List ℕ} {mR : ℕ} {r : List ℕ} {mW : ℕ} {w out�
         emitted n (i + 1) (j + k) (adds + 1) strikes (at (E .pos) (add row)) (E .pos ∷ E .kind ∷ row) new
         (v .2
         ∙ (ap (λ (t : Layer). patchedAdd (F .pos) t (editOf E) ∷ woven n K N (adds + 1) strikes (lefts c mR (i + 1) r)
-            (drop (changesAhead (F .pos) t) t)) back-upper
+        (drop (changesAhead (F .pos) t) t)) back-upper
         ∙ (ap (λ (x : Edit). x ∷ woven n K N (adds + 1) strikes (lefts c mR (i + 1) r)
-            (drop (changesAhead (F .pos) U) U)) (D U)
+        (drop (changesAhead (F .pos) U) U)) (D U)
         ∙ ap (λ (t : Layer). at (E .pos) (add row) ∷ woven n K N (adds + 1) strikes (lefts c mR (i + 1) r) t) rest)))
         (ap (λ (t : ℕ). E .pos ∷ t ∷ row) (sym kind))
         (omega (arith, patched-length (F .pos) U (E .vals), vals-length c (i * (c + 2)) r lower-room)) put
         (omega arith) (omega arith) (omega arith) (omega (arith, g .upper-upto)) (omega arith)
-            (omega (arith, g .few-adds)) (omega (arith, g .few-strikes))
+        (omega (arith, g .few-adds)) (omega (arith, g .few-strikes))
         (omega (arith, v .1))
 
   -- one layer has nothing left
@@ -415,14 +418,14 @@ module _ {c : ℕ} {K N : List ℕ} {mR : ℕ} {r : List ℕ} {mW : ℕ} {w out�
       where
         cases : (a : Bool) → ltb i mR ≡ a → (b : Bool) → ltb j mW ≡ b
             → woven (g .fuel) K N adds strikes (lefts c mR i r) (lefts c mW j w)
-                ≡ lefts c mR i r ++ map (rebased adds strikes) (lefts c mW j w)
+            ≡ lefts c mR i r ++ map (rebased adds strikes) (lefts c mW j w)
         cases true e true f = absurd (true≢false (rw (e, f) at q))
         cases true e false f =
             let z : lefts c mW j w ≡ [] = left-end c mW w j (omega (arith, ltb-false j mW f)) in
             ap (woven (g .fuel) K N adds strikes (lefts c mR i r)) z
             ∙ (no-upper (g .fuel) K N adds strikes (lefts c mR i r)
             ∙ (sym (append-nil (lefts c mR i r)) ∙ ap (λ (t : Layer). lefts c mR i r ++ map (rebased adds strikes) t)
-                (sym z)))
+            (sym z)))
         cases false e b f =
             let z : lefts c mR i r ≡ [] = left-end c mR r i (omega (arith, ltb-false i mR e)) in
             ap (λ (t : Layer). woven (g .fuel) K N adds strikes t (lefts c mW j w)) z
@@ -459,12 +462,12 @@ module _ {c : ℕ} {K N : List ℕ} {mR : ℕ} {r : List ℕ} {mW : ℕ} {w out�
       let L = lefts c mR i r ++ map (rebased adds strikes) (lefts c mW j w) in
       let ys = flat c L in
       let f : flat c whole ≡ take (m * (c + 2)) out ++ ys = g .front
-          ∙ ap (λ (t : Layer). take (m * (c + 2)) out ++ flat c t) (over q) in
+      ∙ ap (λ (t : Layer). take (m * (c + 2)) out ++ flat c t) (over q) in
       let p : flat c whole ≡ take (m * (c + 2) + length ys) new = f ∙ sym (put .front) in
       let o : m * (c + 2) ≤ length out = offset m (omega (arith, g .few)) in
       let n : length (flat c whole) ≡ m * (c + 2) + length ys =
       ap length f ∙ (length-append (take (m * (c + 2)) out) ys
-          ∙ ap (λ (t : ℕ). t + length ys) (length-take-le (m * (c + 2)) out o)) in
+      ∙ ap (λ (t : ℕ). t + length ys) (length-take-le (m * (c + 2)) out o)) in
       record {
         size = put .size ∙ g .size;
         entries = g .entries ∙ (ap (λ (t : Layer). m + length t) (over q)

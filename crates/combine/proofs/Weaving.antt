@@ -98,7 +98,7 @@ pub record Meets (K N : List ℕ) (a s : ℕ) (R W : Layer) : Type 0 where
   pub upper-sits : Sits N W
   pub counted : (f : Edit) → Mem f W
       → position f + s + count (strikeBelow (keyOf N f)) R ≡ keysBelow (keyOf N f) K + a + count
-          (addBelow (keyOf N f)) R
+      (addBelow (keyOf N f)) R
   pub shown : (f : Edit) → Mem f W → addsRow (deed f) ≡ false → Stands K R (keyOf N f)
   pub columns : (p j : ℕ) (e : CellEdit) → Mem (at p (change j e)) W → 1 ≤ j
 
@@ -221,8 +221,13 @@ module _ {K N : List ℕ} {a s : ℕ} {R W : Layer} {f : Edit} (g : Meets K N a 
     (l : (e : Edit) → Mem e R → keyOf N f < keyOf K e) where
   base-position : (position f + s) - a ≡ keysBelow (keyOf N f) K
   base-position =
-      omega (arith, g .counted f (here refl), count-zero (strikeBelow (keyOf N f)) R strikes, count-zero
-          (addBelow (keyOf N f)) R adds)
+      omega (
+        arith,
+        g .counted f (here refl),
+        count-zero (strikeBelow (keyOf N f)) R strikes,
+        count-zero
+            (addBelow (keyOf N f)) R adds,
+      )
     where
       strikes : (e : Edit) → Mem e R → one (strikeBelow (keyOf N f) e) ≡ 0
       strikes (at p (add r)) m = refl
@@ -243,7 +248,7 @@ module _ {K N : List ℕ} {a s : ℕ} {R W : Layer} {f : Edit} (g : Meets K N a 
       go (inl (q, r, m, k)) = absurd (omega (arith, l (at q (add r)) m))
       go (inr w) =
           ap (λ (i : ℕ). getD K i 0) (ap (λ (x : Edit). (position x + s) - a) h ∙ base-position)
-              ∙ (w .0 ∙ ap (keyOf N) (sym h))
+          ∙ (w .0 ∙ ap (keyOf N) (sym h))
 
   upper-step : {M : Layer} → Wove K N R W M → Wove K N R (f ∷ W) (rebased a s f ∷ M)
   upper-step w =
@@ -359,7 +364,7 @@ module _ {K N : List ℕ} {a s : ℕ} {e f : Edit} {R W : Layer} (g : Meets K N 
               ≡ joined (meaning K R l) (meaning N (f ∷ W) l)
           go true h =
               subst (λ (i : ℕ). joined (meaning K (e ∷ R) i) (meaning N (f ∷ W) i)
-                  ≡ joined (meaning K R i) (meaning N (f ∷ W) i))
+              ≡ joined (meaning K R i) (meaning N (f ∷ W) i))
               (eqb-true k l h) (rw (uppers-here, lowers) j)
           go false h = ap (λ (t : List Deed). joined t (meaning N (f ∷ W) l)) (other-lower l (eqb-false k l h))
 
@@ -375,7 +380,7 @@ module _ {K N : List ℕ} {a s : ℕ} {e f : Edit} {R W : Layer} (g : Meets K N 
               ≡ joined (meaning K R l) (meaning N W l)
           go true h =
               subst (λ (i : ℕ). joined (meaning K (e ∷ R) i) (meaning N (f ∷ W) i)
-                  ≡ joined (meaning K R i) (meaning N W i))
+              ≡ joined (meaning K R i) (meaning N W i))
               (eqb-true k l h) (rw (uppers-here, lowers) j)
           go false h =
               let p = other-lower l (eqb-false k l h) in
@@ -439,14 +444,14 @@ ran-none N k p ds q U hc hp o l = record {
 run : (N : List ℕ) (k p : ℕ) (ds : List Deed) (q : Row) (U : Layer) → After (add q) ds → AllPairs (keyed N) U
     → ((f : Edit) → Mem f U → k ≤ keyOf N f) → getD N p 0 ≡ k
     → ((s : ℕ) (d : Deed) → Mem (at s d) U → keyOf N (at s d) ≡ k
-        → (s ≡ p) × (addsRow d ≡ false) × ((l : ℕ) → d ≡ strike l → ⊥))
+    → (s ≡ p) × (addsRow d ≡ false) × ((l : ℕ) → d ≡ strike l → ⊥))
     → ((s j : ℕ) (e : CellEdit) → Mem (at s (change j e)) U → 1 ≤ j)
     → Ran N k p ds q U
 run N k p ds q [] h o l np only col = ran-none N k p ds q [] refl refl o (λ f m. absurd (not-nil m))
 run N k p ds q (at s d ∷ U) h o l np only col =
     go d refl (eqb (keyOf N (at s d)) k) refl
     (λ r. run N k p ds r U (after-row q r ds h) (o .1) (λ f m. l f (next m)) np (λ t x m. only t x (next m))
-        (λ t j x m. col t j x (next m)))
+    (λ t j x m. col t j x (next m)))
   where
     past : (keyOf N (at s d) ≡ k → ⊥) → (f : Edit) → Mem f (at s d ∷ U) → k < keyOf N f
     past n f (here e) = omega (arith, ap (keyOf N) e, l (at s d) (here refl))
@@ -457,7 +462,7 @@ run N k p ds q (at s d ∷ U) h o l np only col =
     taken j e de kk sp w = record {
       joins = rw (here-first)
           (joined-patch q j e ds (meaning N U k) h (subst (λ (x : Deed). After x (meaning N U k)) de
-              (deeds-on N (at s d) U o k kk))
+          (deeds-on N (at s d) U o k kk))
           ∙ (w .joins ∙ ap (λ (r : Row). add r ∷ ds) (sym row)));
       keeps = ap key row ∙ (w .keeps ∙ put-key q j e (col s j e (here {x = at s d} (ap (at s) (sym de)))));
       others = λ i n. meaning-other N (at s (change j e)) U i (λ z. n (sym first ∙ z))
@@ -489,15 +494,15 @@ run N k p ds q (at s d ∷ U) h o l np only col =
     go (add r) dx false e ih = ran-none N k p ds q (at s (add r) ∷ U) refl refl
         (subst (λ (y : Deed). AllPairs (keyed N) (at s y ∷ U)) dx o)
         (subst (λ (y : Deed). (f : Edit) → Mem f (at s y ∷ U) → k < keyOf N f) dx
-            (past (eqb-false (keyOf N (at s d)) k e)))
+        (past (eqb-false (keyOf N (at s d)) k e)))
     go (strike j) dx false e ih = ran-none N k p ds q (at s (strike j) ∷ U) refl refl
         (subst (λ (y : Deed). AllPairs (keyed N) (at s y ∷ U)) dx o)
         (subst (λ (y : Deed). (f : Edit) → Mem f (at s y ∷ U) → k < keyOf N f) dx
-            (past (eqb-false (keyOf N (at s d)) k e)))
+        (past (eqb-false (keyOf N (at s d)) k e)))
     go (change j x) dx false e ih = ran-none N k p ds q (at s (change j x) ∷ U) (rw (sn)) (rw (sn))
         (subst (λ (y : Deed). AllPairs (keyed N) (at s y ∷ U)) dx o)
         (subst (λ (y : Deed). (f : Edit) → Mem f (at s y ∷ U) → k < keyOf N f) dx
-            (past (eqb-false (keyOf N (at s d)) k e)))
+        (past (eqb-false (keyOf N (at s d)) k e)))
       where
         sn : eqb s p ≡ false
         sn = ne-eqb s p (λ z. eqb-false (keyOf N (at s d)) k e
@@ -589,7 +594,7 @@ one-key n {K} {N} {a} {s} p d q (add r) {R} {W} ih g same h = rw (adds d) added
     own : (t : Row) → Mem (add t) (d ∷ meaning K R (keyOf K (at p d))) → key t ≡ key r
     own t m =
         let w = meaning-mem K (at p d ∷ R) (keyOf K (at p d)) (add t)
-            (subst (λ (l : List Deed). Mem (add t) l) (sym (lowers g same)) m) in
+        (subst (λ (l : List Deed). Mem (add t) l) (sym (lowers g same)) m) in
         w .2 ∙ same
 
     added : Wove K N (at p d ∷ R) (at q (add r) ∷ W) (at p (add r) ∷ woven n K N a s (at p d ∷ R) W)
@@ -599,7 +604,7 @@ one-key n {K} {N} {a} {s} p d q (add r) {R} {W} ih g same h = rw (adds d) added
         (ih a s (at p d ∷ R) W (omega arith) (fewer W g (g .upper .1) (λ y m. next m)))
 one-key n {K} {N} {a} {s} p (add t) q (strike l) {R} {W} ih g same h =
     vanish-step g same (joined-vanish t l (meaning K R (key t)) (meaning N W (key t)) (lowers-after g same)
-        (uppers-after g same))
+    (uppers-after g same))
     (ih (a + 1) s R W (omega arith) (pass W g (g .upper .1) (λ y m. next m) gone (a + 1) s refl (omega arith)))
   where
     gone : (f : Edit) → Mem f W → (key t < keyOf N f) ⊎ Quiet (at p (add t))
@@ -611,7 +616,7 @@ one-key n {K} {N} {a} {s} p (strike k) q (strike l) {R} {W} ih g same h = absurd
 one-key n {K} {N} {a} {s} p (change i c) q (strike l) {R} {W} ih g same h =
     drop-step g same
     (joined-struck i c l (meaning K R (getD K p 0)) (meaning N W (getD K p 0)) (lowers-after g same)
-        (uppers-after g same))
+    (uppers-after g same))
     (ih a s R (at q (strike l) ∷ W) (omega arith)
     (pass (at q (strike l) ∷ W) g (g .upper) (λ y m. m) (λ y m. inr (refl, refl)) a s (omega arith) (omega arith)))
 one-key n {K} {N} {a} {s} p (add t) q (change j e) {R} {W} ih g same h =
@@ -631,18 +636,18 @@ one-key n {K} {N} {a} {s} p (change i c) q (change j e) {R} {W} ih g same h = go
     go true f v z =
         earlier-step g same
         (joined-earlier i j c e (meaning K R (getD K p 0)) (meaning N W (getD K p 0)) (ltb-true i j f)
-            (lowers-after g same) (uppers-after g same))
+        (lowers-after g same) (uppers-after g same))
         (ih (a + 0) (s + 0) R (at q (change j e) ∷ W) (omega arith)
-            (pass-change (a + 0) (s + 0) (omega arith) (omega arith)))
+        (pass-change (a + 0) (s + 0) (omega arith) (omega arith)))
     go false f true z =
         drop-step g same
         (joined-replaced i j c e (meaning K R (getD K p 0)) (meaning N W (getD K p 0)) (eqb-true i j z)
-            (lowers-after g same) (uppers-after g same))
+        (lowers-after g same) (uppers-after g same))
         (ih a s R (at q (change j e) ∷ W) (omega arith) (pass-change a s refl refl))
     go false f false z =
         here-step g same refl
         (joined-later j e (change i c ∷ meaning K R (getD K p 0)) (meaning N W (getD K p 0)) later
-            (uppers-after g same))
+        (uppers-after g same))
         (ih a s (at p (change i c) ∷ R) W (omega arith) (fewer W g (g .upper .1) (λ y m. next m)))
       where
         ji : j < i
@@ -661,28 +666,40 @@ step n {K} {N} {a} {s} p d q x {R} {W} ih g h = go (ltb (keyOf K (at p d)) (keyO
     go : (u : Bool) → ltb (keyOf K (at p d)) (keyOf N (at q x)) ≡ u → (v : Bool)
         → ltb (keyOf N (at q x)) (keyOf K (at p d)) ≡ v
         → Wove K N (at p d ∷ R) (at q x ∷ W) (outcome n K N a s (at p d) (at q x) R W
-            (cond u Lower (cond v Upper (meet d x))))
+        (cond u Lower (cond v Upper (meet d x))))
     go true f v z =
         lower-step g low
         (ih (a + one (isAdd (at p d))) (s + one (isStrike (at p d))) R (at q x ∷ W) (omega arith)
         (pass (at q x ∷ W) g (g .upper) (λ y m. m) (λ y m. inl (low y m)) (a + one (isAdd (at p d)))
-            (s + one (isStrike (at p d))) refl refl))
+        (s + one (isStrike (at p d))) refl refl))
       where
         low : (y : Edit) → Mem y (at q x ∷ W) → keyOf K (at p d) < keyOf N y
         low y (here w) = omega (arith, ap (keyOf N) w, ltb-true (keyOf K (at p d)) (keyOf N (at q x)) f)
-        low y (next m) = omega (arith, keys-on N (at q x) W (g .upper) y m, ltb-true (keyOf K (at p d))
-            (keyOf N (at q x)) f)
+        low y (next m) = omega (
+          arith,
+          keys-on N (at q x) W (g .upper) y m,
+          ltb-true (keyOf K (at p d))
+              (keyOf N (at q x)) f,
+        )
     go false f true z =
         upper-step g low (ih a s (at p d ∷ R) W (omega arith) (fewer W g (g .upper .1) (λ y m. next m)))
       where
         low : (y : Edit) → Mem y (at p d ∷ R) → keyOf N (at q x) < keyOf K y
         low y (here w) = omega (arith, ap (keyOf K) w, ltb-true (keyOf N (at q x)) (keyOf K (at p d)) z)
-        low y (next m) = omega (arith, keys-on K (at p d) R (g .lower) y m, ltb-true (keyOf N (at q x))
-            (keyOf K (at p d)) z)
+        low y (next m) = omega (
+          arith,
+          keys-on K (at p d) R (g .lower) y m,
+          ltb-true (keyOf N (at q x))
+              (keyOf K (at p d)) z,
+        )
     go false f false z =
         one-key n p d q x ih g
-        (omega (arith, ltb-false (keyOf K (at p d)) (keyOf N (at q x)) f, ltb-false (keyOf N (at q x))
-            (keyOf K (at p d)) z)) h
+        (omega (
+          arith,
+          ltb-false (keyOf K (at p d)) (keyOf N (at q x)) f,
+          ltb-false (keyOf N (at q x))
+              (keyOf K (at p d)) z,
+        )) h
 
 -- nothing is left of the upper layer
 lowers-only : {K N : List ℕ} {a s : ℕ} (R : Layer) → Meets K N a s R [] → Wove K N R [] R

@@ -20,7 +20,7 @@ use Rattle.model.specs.Examples.{four, Example, edits, shifts, passes, refuses,
 abbrev pub Outcome : ℕ → List ℕ → ℕ → List ℕ → ℕ → List ℕ → List ℕ → Answer → List ℕ → Type 0
 Outcome c K mR rawR mW rawW out a out′ =
     (a ≡ combineAnswer c K mR rawR mW rawW (length out)) × (out′
-        ≡ written a (flat c (combinedLayer c K mR rawR mW rawW)) out)
+    ≡ written a (flat c (combinedLayer c K mR rawR mW rawW)) out)
 
 -- the m entries at the front of the third slice are the combination of R and W: it keeps form and fits, the fit call
 -- accepts it,

@@ -23,8 +23,8 @@ returns c =
     let a = c .before .before .before .before .before .before .before .before .args in (
       (c .tell .ensures .0 ∙ ap numberOf (f .0), c .tell .ensures .1 ∙ ap valueOf (f .0)),
       f .1
-      ∙ ap (λ (r : Answer). edited (a .c) (a .m) r (addedLayer (a .c) (a .m) (a .layer .now) (a .keys .now) (a .row .now))
-      (a .layer .now)) (f .0),
+          ∙ ap (λ (r : Answer). edited (a .c) (a .m) r (addedLayer (a .c) (a .m) (a .layer .now) (a .keys .now) (a .row .now))
+          (a .layer .now)) (f .0),
     )
 
 pub kw-add-spec : {M : Type 1} → statement M

@@ -24,8 +24,8 @@ returns c =
     let a = c .before .before .before .before .before .before .before .before .before .args in (
       (c .tell .ensures .0 ∙ ap numberOf (f .0), c .tell .ensures .1 ∙ ap valueOf (f .0)),
       f .1
-      ∙ ap (λ (r : Answer). written r
-      (flat (a .c) (combinedLayer (a .c) (a .keys .now) (a .mr) (a .r .now) (a .mw) (a .w .now))) (a .out .now)) (f .0),
+          ∙ ap (λ (r : Answer). written r
+          (flat (a .c) (combinedLayer (a .c) (a .keys .now) (a .mr) (a .r .now) (a .mw) (a .w .now))) (a .out .now)) (f .0),
     )
 
 pub kw-combine-spec : {M : Type 1} → statement M

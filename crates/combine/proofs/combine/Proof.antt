@@ -57,16 +57,16 @@ lower-done c = sym (c .before .before .check .ensures) ∙ c .rows .given .1
 
 upper-not : (c : tie.After-y) →
     let a =
-        c .before .before .before .before .before .before .before .before .before .before .before .before .before .before .args in
+    c .before .before .before .before .before .before .before .before .before .before .before .before .before .before .args in
     formAnswer (a .c) (c .before .before .before .before .rows .given .0 .0) (a .mw) (a .w .now)
-        ≡ Refused (c .y .given .0 .0)
+    ≡ Refused (c .y .given .0 .0)
 upper-not c = sym (c .before .before .check2 .ensures) ∙ c .y .given .1
 
 upper-done : (c : tie.After-enum-told) →
     let a =
-        c .before .before .before .before .before .before .before .before .before .before .before .before .before .before .args in
+    c .before .before .before .before .before .before .before .before .before .before .before .before .before .before .args in
     formAnswer (a .c) (c .before .before .before .before .rows .given .0 .0) (a .mw) (a .w .now)
-        ≡ Done (c .enum-told .given .0 .0)
+    ≡ Done (c .enum-told .given .0 .0)
 upper-done c = sym (c .before .before .check2 .ensures) ∙ c .enum-told .given .1
 
 args-ok-requires : tie.Need-args-ok-requires
@@ -106,7 +106,7 @@ enum-known-y c = search needs
 add-refused : tie.Need-add-refused
 add-refused c =
     let s =
-        c .before .before .before .before .before .before .before .before .before .before .before .before .before .before .before .before in
+    c .before .before .before .before .before .before .before .before .before .before .before .before .before .before .before .before in
     let e = c .before .before .before .before .before .before .before .before .before in
     let r = c .before .before .before .before .before .before in
     let y = c .before .before in
@@ -126,7 +126,7 @@ enum-told c = search needs
 fit-both-requires : tie.Need-fit-both-requires
 fit-both-requires c κs =
     let s =
-        c .before .before .before .before .before .before .before .before .before .before .before .before .before .before .before in
+    c .before .before .before .before .before .before .before .before .before .before .before .before .before .before .before in
     let e = c .before .before .before .before .before .before .before .before in
     let r = c .before .before .before .before .before in
     let d = c .before in
@@ -149,14 +149,14 @@ returns-2 c =
 returns-3 : tie.Need-returns-3
 returns-3 c =
     let s =
-        c .before .before .before .before .before .before .before .before .before .before .before .before .before .before .before .before .before in
+    c .before .before .before .before .before .before .before .before .before .before .before .before .before .before .before .before .before in
     let e = c .before .before .before .before .before .before .before .before .before .before in
     let r = c .before .before .before .before .before .before .before in
     let y = c .before .before .before in
     let a = s .args in (
       c .refused2 .ensures
           ∙ upper-form-refused (a .c) (a .keys .now) (a .mr) (a .r .now) (a .mw) (a .w .now) (length (a .out .now))
-              (passed e)
+          (passed e)
           (r .rows .given .0 .0) (lower-done r) (y .y .given .0 .0) (upper-not y),
       ap (After s) (sym (c .refused2 .ensures)),
     )
@@ -167,7 +167,7 @@ same-length c = search needs
 returns-4 : tie.Need-returns-4
 returns-4 c =
     let s =
-        c .before .before .before .before .before .before .before .before .before .before .before .before .before .before .before .before .before .before in
+    c .before .before .before .before .before .before .before .before .before .before .before .before .before .before .before .before .before .before in
     let e = c .before .before .before .before .before .before .before .before .before .before .before in
     let r = c .before .before .before .before .before .before .before .before in
     let d = c .before .before .before .before in

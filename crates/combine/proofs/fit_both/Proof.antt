@@ -68,7 +68,7 @@ module _ (c : tie.After-read-part) where
 -- the upper layer fits it
 upper-fits : (c : tie.Else3) →
     let a =
-        c .before .before .before .before .before .before .before .before .before .before .before .before .before .before .args in
+    c .before .before .before .before .before .before .before .before .before .before .before .before .before .before .args in
     a .mw ≤ fitPlace (mid (c .before .before .before .before)) (layerOf (a .c) (a .mw) (a .w .now))
 upper-fits c = omega (arith, c .if3 .left, c .before .fit-place2 .ensures)
 
@@ -121,13 +121,16 @@ fit-place-requires-2 : tie.Need-fit-place-requires-2
 fit-place-requires-2 c κs =
     let r = c .before .before in
     upper-form (c .before .before .before .before .before .before .before .before .before .before .before .before .pre)
-        (mid r) (mid-is r)
+    (mid r) (mid-is r)
 
 add-refused : tie.Need-add-refused
 add-refused c =
-    omega
-    (arith, c .if3 .taken, upper-few
-    (c .before .before .before .before .before .before .before .before .before .before .before .before .before .before .pre))
+    omega (
+      arith,
+      c .if3 .taken,
+      upper-few
+          (c .before .before .before .before .before .before .before .before .before .before .before .before .before .before .pre),
+    )
 
 refused-requires-3 : tie.Need-refused-requires-3
 refused-requires-3 c κs = search needs
@@ -135,7 +138,7 @@ refused-requires-3 c κs = search needs
 returns-3 : tie.Need-returns-3
 returns-3 c =
     let s =
-        c .before .before .before .before .before .before .before .before .before .before .before .before .before .before .before in
+    c .before .before .before .before .before .before .before .before .before .before .before .before .before .before .before in
     let a = s .args in
     let r = c .before .before .before .before .before in
     let e = c .before .before .before .before .before .before .before in
@@ -143,7 +146,7 @@ returns-3 c =
       c .refused3 .ensures
           ∙ upper-refused (a .c) (a .keys .now) (a .mr) (a .r .now) (a .mw) (a .w .now) (length (a .out .now))
           (rising (e .before .before)) (lower-fits e) (mid r) (mid-is r) (f .result) (f .ensures)
-              (c .before .if3 .taken),
+          (c .before .if3 .taken),
       ap (After s) (sym (c .refused3 .ensures)),
     )
 
@@ -173,7 +176,7 @@ same-length c = search needs
 returns-4 : tie.Need-returns-4
 returns-4 c =
     let a =
-        c .before .before .before .before .before .before .before .before .before .before .before .before .before .before .before .before .before .before .before .args in
+    c .before .before .before .before .before .before .before .before .before .before .before .before .before .before .before .before .before .before .before .args in
     let r = c .before .before .before .before .before .before .before .before .before in
     let e = c .before .before .before .before .before .before .before .before .before .before .before in
     let u = c .before .before .before .before .before in

@@ -59,7 +59,7 @@ returns c =
     let M = combinedLayer (a .c) (a .keys .now) (a .mr) (a .r .now) (a .mw) (a .w .now) in (
       c .refused .ensures
           ∙ short (start w .pre) (w .weave .ensures) (length (a .out .now)) (k .result) (k .ensures)
-              (c .before .if1 .taken),
+          (c .before .if1 .taken),
       ap (λ (t : Answer). written t (flat (a .c) M) (a .out .now)) (sym (c .refused .ensures)),
     )
 
@@ -76,8 +76,12 @@ slice-aggregate-copy-in : tie.Need-slice-aggregate-copy-in
 slice-aggregate-copy-in c = sym (front-length (c .before .before .before .before))
 
 copy-in-requires : tie.Need-copy-in-requires
-copy-in-requires c κs = omega (arith, front-length (c .before .before .before .before .before), fits-out
-    (c .before .before))
+copy-in-requires c κs = omega (
+  arith,
+  front-length (c .before .before .before .before .before),
+  fits-out
+      (c .before .before),
+)
 
 same-length : tie.Need-same-length
 same-length c = search needs

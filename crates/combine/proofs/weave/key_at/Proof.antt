@@ -26,7 +26,7 @@ returns : tie.Need-returns
 returns c =
     let a = c .before .before .before .before .before .args in
     c .value-at .ensures ∙ sym (key-named (a .keys .now) (entryAt (a .c) (a .at) (a .layer .now))
-        (c .before .if1 .taken))
+    (c .before .if1 .taken))
 
 mul-s : tie.Need-mul-s
 mul-s c = search needs

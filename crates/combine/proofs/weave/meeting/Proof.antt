@@ -8,12 +8,20 @@ returns : tie.Need-returns
 returns c = rw (eq-eqb _ _ (c .if1 .taken))
 
 returns-2 : tie.Need-returns-2
-returns-2 c = rw (ne-eqb _ _ (c .before .before .if1 .left), eq-eqb _ _ (c .before .if2 .taken), eq-eqb _ _
-    (c .if3 .taken))
+returns-2 c = rw (
+  ne-eqb _ _ (c .before .before .if1 .left),
+  eq-eqb _ _ (c .before .if2 .taken),
+  eq-eqb _ _
+      (c .if3 .taken),
+)
 
 returns-3 : tie.Need-returns-3
-returns-3 c = rw (ne-eqb _ _ (c .before .before .if1 .left), eq-eqb _ _ (c .before .if2 .taken), ne-eqb _ _
-    (c .if3 .left))
+returns-3 c = rw (
+  ne-eqb _ _ (c .before .before .if1 .left),
+  eq-eqb _ _ (c .before .if2 .taken),
+  ne-eqb _ _
+      (c .if3 .left),
+)
 
 returns-4 : tie.Need-returns-4
 returns-4 c = rw (ne-eqb _ _ (c .before .before .if1 .left), ne-eqb _ _ (c .before .if2 .left), c .if4 .taken)

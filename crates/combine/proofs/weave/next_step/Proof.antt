@@ -18,7 +18,7 @@ returns c =
     let k = c .before in
     let a = k .before .before .before .before .before .before .args in
     step-lower (a .keys .now) (a .mid .now) (editOf (entryAt (a .c) (a .at) (a .r .now)))
-        (editOf (entryAt (a .c) (a .bt) (a .w .now)))
+    (editOf (entryAt (a .c) (a .bt) (a .w .now)))
     (k .before .key-at .result) (k .key-at2 .result) (k .before .key-at .ensures) (k .key-at2 .ensures) (c .if1 .taken)
 
 returns-2 : tie.Need-returns-2
@@ -26,9 +26,9 @@ returns-2 c =
     let k = c .before .before in
     let a = k .before .before .before .before .before .before .args in
     step-upper (a .keys .now) (a .mid .now) (editOf (entryAt (a .c) (a .at) (a .r .now)))
-        (editOf (entryAt (a .c) (a .bt) (a .w .now)))
+    (editOf (entryAt (a .c) (a .bt) (a .w .now)))
     (k .before .key-at .result) (k .key-at2 .result) (k .before .key-at .ensures) (k .key-at2 .ensures)
-        (c .before .if1 .left) (c .if2 .taken)
+    (c .before .if1 .left) (c .if2 .taken)
 
 add-meeting : tie.Need-add-meeting
 add-meeting c = search needs
@@ -61,7 +61,7 @@ returns-3 c =
     c .meeting .ensures ∙ meet-kinds (e .kind) (f .kind) (e .vals) (f .vals)
     ∙ step-meet (a .keys .now) (a .mid .now) (editOf e) (editOf f)
     (k .before .key-at .result) (k .key-at2 .result) (k .before .key-at .ensures) (k .key-at2 .ensures)
-        (t .before .if1 .left) (t .if2 .left)
+    (t .before .if1 .left) (t .if2 .left)
 
 pub next-step-spec : {M : Type 1} → statement M
 next-step-spec =

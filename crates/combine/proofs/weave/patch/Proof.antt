@@ -21,7 +21,7 @@ here c = near (c .before .loop .inv) (c .loop-test .taken)
 
 inside : (c : tie.Else1 Inv-loop μ-loop) → let a = c .before .before .before .before .before .args in
     getD (a .w .now) (c .before .before .before .before .loop .at + 1) 0 < length
-        (c .before .before .before .before .loop .row)
+    (c .before .before .before .before .loop .row)
 inside c = column (c .before .before .before .before .loop .inv) (c .before .before .before .loop-test .taken)
     (c .if1 .left)
 
@@ -57,8 +57,11 @@ mul-row : tie.Need-mul-row Inv-loop μ-loop
 mul-row c = omega (arith, here (c .before .before .before))
 
 shared-slice-read-row : tie.Need-shared-slice-read-row Inv-loop μ-loop
-shared-slice-read-row c = omega (arith, here (c .before .before .before .before),
-    c .before .before .before .before .before .loop .inv .some)
+shared-slice-read-row c = omega (
+  arith,
+  here (c .before .before .before .before),
+  c .before .before .before .before .before .loop .inv .some,
+)
 
 mul-row-2 : tie.Need-mul-row-2 Inv-loop μ-loop
 mul-row-2 c = omega (arith, inside (c .before))

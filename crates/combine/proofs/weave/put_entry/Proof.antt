@@ -40,7 +40,7 @@ returns c =
     let s = c .before .before .before .before .before .before .before in
     let a = s .args in
     put-entry (a .c) (a .p) (a .at) (a .o) (a .layer .now) (a .out .now) (c .before .before .copy-in .last .1 .0)
-        (s .pre .0) (s .pre .1)
+    (s .pre .0) (s .pre .1)
     (c .before .before .copy-in .ensures .1)
 
 pub put-entry-spec : {M : Type 1} → statement M

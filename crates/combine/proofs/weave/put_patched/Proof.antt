@@ -53,15 +53,15 @@ part-patch-end c = search needs
 part : (c : tie.After-patch-arg) →
     let a = c .before .before .before .before .before .before .before .before .before .before .args in
     take (a .o + 2 + a .c - (a .o + 2))
-        (drop (a .o + 2) (c .before .before .before .before .put-entry .last .1 .1 .1 .1 .0))
-        ≡ entryAt (a .c) (a .at) (a .r .now) .vals
+    (drop (a .o + 2) (c .before .before .before .before .put-entry .last .1 .1 .1 .1 .0))
+    ≡ entryAt (a .c) (a .at) (a .r .now) .vals
 part c =
     let s = c .before .before .before .before .before .before .before .before .before .before in
     let a = s .args in
     let f = c .before .before .before .before .put-entry in
     let e = entryAt (a .c) (a .at) (a .r .now) in
     values-part (a .c) (e .pos) (e .kind) (a .o) (e .vals) (e .vals) (a .out .now) (f .last .1 .1 .1 .1 .0)
-        (a .out .now) (f .ensures)
+    (a .out .now) (f .ensures)
     (vals-length (a .c) (a .at) (a .r .now) (s .pre .0)) (s .pre .2)
 
 patch-requires : tie.Need-patch-requires
@@ -88,7 +88,7 @@ returns c =
       f .ensures .0,
       put-values (a .c) (e .pos) (e .kind) (a .o) (e .vals) row (a .out .now) (q .last .1 .1 .1 .1 .0)
           (putMid (a .o + 2) (a .o + 2 + a .c - (a .o + 2)) (q .last .1 .1 .1 .1 .0) (f .last .1 .1 .1 .1 .1 .0))
-              (q .ensures) lv (s .pre .2)
+          (q .ensures) lv (s .pre .2)
           (patched-length (getD (a .w .now) (a .bt) 0) U (e .vals) ∙ lv)
           (ap (putMid (a .o + 2) (a .o + 2 + a .c - (a .o + 2)) (q .last .1 .1 .1 .1 .0))
           (f .ensures .1 ∙ ap (patched (getD (a .w .now) (a .bt) 0) U) (part p))),

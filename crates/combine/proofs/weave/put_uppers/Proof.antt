@@ -50,8 +50,11 @@ add-end : tie.Need-add-end Inv-loop μ-loop
 add-end c = omega (arith, here (c .before .before .before .before .before .before))
 
 add-end-2 : tie.Need-add-end-2 Inv-loop μ-loop
-add-end-2 c = omega (arith, place (c .before .before .before .before .before .before),
-    c .before .before .before .before .before .before .before .before .before .before .good)
+add-end-2 c = omega (
+  arith,
+  place (c .before .before .before .before .before .before),
+  c .before .before .before .before .before .before .before .before .before .before .good,
+)
 
 add-i : tie.Need-add-i Inv-loop μ-loop
 add-i c = omega (arith, c .before .before .before .before .before .before .loop-test .taken)

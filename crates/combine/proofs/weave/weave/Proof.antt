@@ -128,7 +128,7 @@ all-there : (c : tie.After-slice-known6 Inv-loop μ-loop) → let l = c .before 
     Woven (a .c)
     (wovenLayer (a .keys .now) (a .mid .now) (layerOf (a .c) (a .mr) (a .r .now)) (layerOf (a .c) (a .mw) (a .w .now)))
     (l .m + (a .mr - l .i) + (a .mw - l .j)) (a .out .now)
-        (c .before .before .finish .last .1 .1 .1 .1 .1 .1 .1 .1 .1 .0)
+    (c .before .before .finish .last .1 .1 .1 .1 .1 .1 .1 .1 .1 .0)
 all-there c =
     let s = c .before .before .before .before .before .before .before .before .before .before .before in
     let f = c .before .before .finish in
@@ -153,8 +153,10 @@ mul-o : tie.Need-mul-o Inv-loop μ-loop
 mul-o c = omega (arith, out-here c, c .before .before .before .before .before .before .before .good)
 
 next-step-requires : tie.Need-next-step-requires Inv-loop μ-loop
-next-step-requires c κs = (lower-alone (low c) (up c) (space c) (c .before .loop .inv) (inside c .0) (inside c .1),
-    upper-alone (low c) (up c) (space c) (c .before .loop .inv) (inside c .0) (inside c .1))
+next-step-requires c κs = (
+  lower-alone (low c) (up c) (space c) (c .before .loop .inv) (inside c .0) (inside c .1),
+  upper-alone (low c) (up c) (space c) (c .before .loop .inv) (inside c .0) (inside c .1),
+)
 
 enum-told : tie.Need-enum-told Inv-loop μ-loop
 enum-told c = search needs
@@ -182,8 +184,11 @@ one-if-requires : tie.Need-one-if-requires Inv-loop μ-loop
 one-if-requires c κs = search needs
 
 add-adds : tie.Need-add-adds Inv-loop μ-loop
-add-adds c = omega (arith, counts (c .before .before .before .before .before .before .before .before .before .before),
-    c .one-if .ensures .1)
+add-adds c = omega (
+  arith,
+  counts (c .before .before .before .before .before .before .before .before .before .before),
+  c .one-if .ensures .1,
+)
 
 add-one-if-2 : tie.Need-add-one-if-2 Inv-loop μ-loop
 add-one-if-2 c =
@@ -203,9 +208,11 @@ one-if-requires-2 c κs = search needs
 
 add-strikes : tie.Need-add-strikes Inv-loop μ-loop
 add-strikes c =
-    omega
-    (arith, counts (c .before .before .before .before .before .before .before .before .before .before .before .before),
-    c .one-if2 .ensures .1)
+    omega (
+      arith,
+      counts (c .before .before .before .before .before .before .before .before .before .before .before .before),
+      c .one-if2 .ensures .1,
+    )
 
 add-i : tie.Need-add-i Inv-loop μ-loop
 add-i c =
@@ -230,9 +237,9 @@ loop-again c =
     let p = c .before .before .before .before .before .before .put-entry in
     on-lower (low t) (up t) (space t) (t .before .loop .inv) (inside t .0) (inside t .1)
     (sym (c .before .before .before .before .before .before .before .before .before .enum-told .given .1)
-        ∙ c .before .before .before .before .before .before .before .before .before .before .before .next-step .ensures)
+    ∙ c .before .before .before .before .before .before .before .before .before .before .before .next-step .ensures)
     (a .result) (s .result) (p .last .1 .1 .1 .1 .0) (a .ensures .0) (a .ensures .1) (s .ensures .0) (s .ensures .1)
-        (p .ensures)
+    (p .ensures)
 
 enum-told-2 : tie.Need-enum-told-2 Inv-loop μ-loop
 enum-told-2 c = search needs
@@ -265,7 +272,7 @@ loop-again-2 c =
     let p = c .before .before .put-entry2 in
     on-upper (low t) (up t) (space t) (t .before .loop .inv) (inside t .0) (inside t .1)
     (sym (c .before .before .before .before .before .before .enum-told2 .given .1)
-        ∙ c .before .before .before .before .before .before .before .before .next-step .ensures)
+    ∙ c .before .before .before .before .before .before .before .before .next-step .ensures)
     (b .result) (p .last .1 .1 .1 .1 .0) (b .ensures) (p .ensures)
 
 enum-told-3 : tie.Need-enum-told-3 Inv-loop μ-loop
@@ -295,7 +302,7 @@ loop-again-3 c =
     let p = c .before .before .put-entry3 in
     on-here (low t) (up t) (space t) (t .before .loop .inv) (inside t .0) (inside t .1)
     (sym (c .before .before .before .before .before .enum-told3 .given .1)
-        ∙ c .before .before .before .before .before .before .before .next-step .ensures)
+    ∙ c .before .before .before .before .before .before .before .next-step .ensures)
     (p .last .1 .1 .1 .1 .0) (p .ensures)
 
 enum-told-4 : tie.Need-enum-told-4 Inv-loop μ-loop
@@ -342,9 +349,13 @@ sub-put-patched c = omega (arith, c .before .before .before .before .loop .inv .
 
 put-patched-requires : tie.Need-put-patched-requires Inv-loop μ-loop
 put-patched-requires c κs =
-    let t = c .before .before .before .before in
-    (lower-here t, upper-here t, room-here t, runs (low t) (up t) (space t) (t .before .loop .inv) (inside t .0)
-        (inside t .1))
+    let t = c .before .before .before .before in (
+      lower-here t,
+      upper-here t,
+      room-here t,
+      runs (low t) (up t) (space t) (t .before .loop .inv) (inside t .0)
+          (inside t .1),
+    )
 
 add-j-4 : tie.Need-add-j-4 Inv-loop μ-loop
 add-j-4 c =
@@ -374,7 +385,7 @@ loop-again-6 c =
     let p = c .before .before .put-patched in
     on-patch (low t) (up t) (space t) (t .before .loop .inv) (inside t .0) (inside t .1)
     (sym (c .before .before .before .before .enum-told6 .given .1)
-        ∙ c .before .before .before .before .before .before .next-step .ensures)
+    ∙ c .before .before .before .before .before .before .next-step .ensures)
     (p .result) (p .last .1 .1 .1 .1 .1 .1 .0) (p .ensures .0) (p .ensures .1)
 
 mul-finish : tie.Need-mul-finish Inv-loop μ-loop
