@@ -14,7 +14,7 @@ use Rattle.order.proofs.Counts.{count-same}
 use Rattle.order.proofs.Ascending.{AscFrom, At, below, at-mem, at-count, asc-of, asc-same}
 use Rattle.model.specs.Row.{Row, Table, key, keys}
 use Rattle.model.specs.Layer.{Deed, add, strike, change, Edit, at, Layer, rowsAfter, position, struck, changed}
-use Rattle.model.specs.Form.{inOrder}
+use Rattle.model.specs.Form.{sound, inOrder}
 use Rattle.model.specs.Fit.{fits, keysBelow}
 use Rattle.model.specs.Read.{read, keysAfter}
 use Rattle.model.specs.Redo.{combine}
@@ -122,6 +122,7 @@ keys-rows (k ∷ K) = ap (λ (t : List ℕ). k ∷ t) (keys-rows K)
 pub record Combines (c : ℕ) (K : List ℕ) (R W : Layer) : Type 0 where
   pub same : wovenLayer K (keysAfter K R) R W ≡ combine K R W
   pub rows : rowsAfter (length K) (combine K R W) ≡ rowsAfter (rowsAfter (length K) R) W
+  pub each : (e : Edit) → Mem e (combine K R W) → sound c (length K) e ≡ true
 
 over-keys : (c : ℕ) (T : Table) (R W : Layer) → ascending (keys T) ≡ true → inOrder c (length (keys T)) R ≡ true → fits (keys T) R ≡ true
     → inOrder c (rowsAfter (length (keys T)) R) W ≡ true → fits (keysAfter (keys T) R) W ≡ true → Combines c (keys T) R W
@@ -134,6 +135,7 @@ over-keys c T R W h fr gr fw gw =
       same = ap (λ (N : List ℕ). wovenLayer (keys T) N R W) (keys-read T R (key-kept T R (GR .fit))) ∙ woven-good c T R W a GR GW;
       rows = ap (λ (i : ℕ). rowsAfter i (combine (keys T) R W)) n
           ∙ (combine-rows c T R W a GR GW ∙ ap (λ (i : ℕ). rowsAfter (rowsAfter i R) W) (sym n));
+      each = λ e m. ap (λ (i : ℕ). sound c i e) n ∙ combine-good c T R W a GR GW .each e m;
     }
 
 pub combines : (c : ℕ) (K : List ℕ) (R W : Layer) → ascending K ≡ true → inOrder c (length K) R ≡ true → fits K R ≡ true

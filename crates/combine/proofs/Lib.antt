@@ -9,3 +9,5 @@ pub mod Placing
 pub mod Left
 pub mod Walking
 pub mod Finishing
+pub mod Joining
+pub mod Answering

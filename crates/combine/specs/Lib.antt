@@ -1,2 +1,3 @@
 pub mod Woven
 pub mod Walk
+pub mod Rows
