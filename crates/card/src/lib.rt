@@ -15,6 +15,8 @@ ghost use Rattle.model.specs.Calls.{
   struckLayer,
   changeAnswer,
   changedLayer,
+  combineAnswer,
+  combinedLayer,
   moveAnswer,
   movedLayer,
   fitAnswer,
@@ -195,6 +197,23 @@ pub extern "C" fn kw_change(
         (changedLayer c m (now (layer .entry)) (now (keys .entry)) r j v) (now (layer .entry))) ⌝ }
 {
     tell(edit::change(c, m, layer, keys, r, j, v))
+}
+
+#[no_mangle]
+pub extern "C" fn kw_combine(
+    c: usize,
+    keys: &[u64],
+    mr: usize,
+    r: &[u64],
+    mw: usize,
+    w: &[u64],
+    out: &mut [u64],
+) -> Told
+    ensures { λ o. ⌜ Tells o (combineAnswer c (now (keys .entry)) mr (now (r .entry)) mw (now (w .entry)) (length (now (out .entry))))
+        × (now (out .exit) ≡ written (combineAnswer c (now (keys .entry)) mr (now (r .entry)) mw (now (w .entry)) (length (now (out .entry))))
+            (flat c (combinedLayer c (now (keys .entry)) mr (now (r .entry)) mw (now (w .entry)))) (now (out .entry))) ⌝ }
+{
+    tell(combine::combine(c, keys, mr, r, mw, w, out))
 }
 
 #[no_mangle]

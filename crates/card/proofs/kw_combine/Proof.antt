@@ -1,0 +1,32 @@
+-- `card::kw_combine` meets its contract: the two numbers are those of `combine::combine`'s answer, and the slice is as it left it.
+-- Assumes nothing.
+use borrow.Author.Needs.{needs}
+use mathlib.Core.Path.{_∙_, ap}
+use Rattle.model.specs.declared.Answer.{Answer}
+use Rattle.model.specs.Answer.{numberOf, valueOf}
+use Rattle.model.specs.Raw.{flat}
+use Rattle.model.specs.Calls.{written, combinedLayer}
+use Rattle.card.proofs.kw_combine.Statement.{statement}
+use Rattle.card.proofs.kw_combine.Tie as tie
+
+combine-requires : tie.Need-combine-requires
+combine-requires c κs = search needs
+
+tell-requires : tie.Need-tell-requires
+tell-requires c κs = search needs
+
+same-length : tie.Need-same-length
+same-length c = search needs
+
+returns : tie.Need-returns
+returns c =
+    let f = c .before .before .before .combine .ensures in
+    let a = c .before .before .before .before .before .before .before .before .before .args in (
+      (c .tell .ensures .0 ∙ ap numberOf (f .0), c .tell .ensures .1 ∙ ap valueOf (f .0)),
+      f .1
+      ∙ ap (λ (r : Answer). written r
+      (flat (a .c) (combinedLayer (a .c) (a .keys .now) (a .mr) (a .r .now) (a .mw) (a .w .now))) (a .out .now)) (f .0),
+    )
+
+pub kw-combine-spec : {M : Type 1} → statement M
+kw-combine-spec = tie.close (tie.spec combine-requires tell-requires same-length returns)
