@@ -33,7 +33,7 @@ use Rattle.read.proofs.Ready.{ready}
 use Rattle.combine.specs.Rows.{joinAnswer, fitsAnswer, Forms, Fits}
 
 -- the arguments pass over other rows too
-other-rows : (c n k m len : ℕ) → argsOk c n m len ≡ true → k ≤ 4096 → argsOk c k m len ≡ true
+pub other-rows : (c n k m len : ℕ) → argsOk c n m len ≡ true → k ≤ 4096 → argsOk c k m len ≡ true
 unfolding argsOk
 other-rows c n k m len h l =
     let a = leb m mostEntries && leb (m * (c + 2)) len in

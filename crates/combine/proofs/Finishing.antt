@@ -9,10 +9,11 @@ use lib.ListN.{length, take, drop, length-take, length-drop}
 use lib.Seq.{paste}
 use Rattle.model.specs.Layer.{Layer}
 use Rattle.model.specs.Raw.{flat}
+use Rattle.write.proofs.Layers.{flat-append}
 use Rattle.combine.specs.Woven.{rebased}
 use Rattle.combine.specs.Walk.{Put, Uppers, lefts, Rest}
 use Rattle.combine.proofs.Buffer.{put-paste, put-both}
-use Rattle.combine.proofs.Left.{mul-split, left-numbers, flat-append}
+use Rattle.combine.proofs.Left.{mul-split, left-numbers}
 
 module _ {c mR i : ℕ} {r : List ℕ} {mW j : ℕ} {w : List ℕ} {strikes o : ℕ} (out : List ℕ) (g : Rest c mR i r mW j w strikes o (length out)) where
   pub lower-at : i * (c + 2) ≤ mR * (c + 2)

@@ -27,16 +27,23 @@ use Rattle.form.specs.InForm.{InForm}
 use Rattle.form.proofs.Accepted.{Accepted, accepted}
 use Rattle.read.proofs.Ready.{ready}
 use Rattle.read.proofs.Rows.{rows-shown}
+use Rattle.write.proofs.Layers.{sound-wide, flat-length}
 use Rattle.combine.specs.Woven.{wovenLayer}
 use Rattle.combine.specs.Walk.{Both, Woven}
 use Rattle.combine.specs.Rows.{joinAnswer, Forms, Fits}
-use Rattle.combine.proofs.Left.{flat-length}
 use Rattle.combine.proofs.Combined.{Combines, combines}
 
 -- no edit breaks a rule of fit
 pub fits-of : (K : List ℕ) (L : Layer) (m : ℕ) → length L ≡ m → m ≤ fitPlace K L → fits K L ≡ true
 unfolding fits fitPlace
 fits-of K L m l h = eq-eqb (fitPlace K L) (length L) (omega (arith, broken-le (suits K L) rises [] L))
+
+-- what fits the room fits the slice
+pub room-fits : (c len m : ℕ) → m ≤ room c len → (m ≤ 512) × (m * (c + 2) ≤ len)
+unfolding room
+room-fits c len m h =
+    let q : m ≤ len / (c + 2) = omega arith in
+    (omega arith, omega (arith, mul-le-mul-right {m = m} {n = len / (c + 2)} (c + 2) q, div-mul-le-self len (c + 2)))
 
 -- as many keys as rows
 pub mid-rows : {c : ℕ} {K : List ℕ} {mR : ℕ} {rawR : List ℕ} {mW : ℕ} {rawW : List ℕ} → Forms c K mR rawR mW rawW → (N : List ℕ)
@@ -62,10 +69,10 @@ module _ {c : ℕ} {K N : List ℕ} {mR : ℕ} {rawR : List ℕ} {mW : ℕ} {raw
   abbrev M : Layer
   M = combine K R W
 
-  low : Accepted c (length K) mR rawR (rowsAfter (length K) R)
+  pub low : Accepted c (length K) mR rawR (rowsAfter (length K) R)
   low = accepted c (length K) mR rawR (rowsAfter (length K) R) (f .forms .lower)
 
-  up : Accepted c (rowsAfter (length K) R) mW rawW (rowsAfter (rowsAfter (length K) R) W)
+  pub up : Accepted c (rowsAfter (length K) R) mW rawW (rowsAfter (rowsAfter (length K) R) W)
   up = accepted c (rowsAfter (length K) R) mW rawW (rowsAfter (rowsAfter (length K) R) W) (f .forms .upper)
 
   pub columns : c ≤ 8
@@ -79,17 +86,17 @@ module _ {c : ℕ} {K N : List ℕ} {mR : ℕ} {rawR : List ℕ} {mW : ℕ} {raw
         (omega (arith, low .held .entries, up .held .entries)) (omega (arith, columns));
   }
 
-  joins : Combines c K R W
+  pub joins : Combines c K R W
   joins = combines c K R W (f .rising) (low .ordered) (fits-of K R mR (low .size) (f .lower)) (up .ordered)
       (subst (λ (L : List ℕ). fits L W ≡ true) (f .mid) (fits-of N W mW (up .size) (f .upper)))
 
   same : wovenLayer K N R W ≡ M
   same = ap (λ (L : List ℕ). wovenLayer K L R W) (f .mid) ∙ joins .same
 
-  flat-size : length (flat c M) ≡ length M * (c + 2)
-  flat-size = flat-length c (length K) M (low .held .some) (joins .each)
+  pub flat-size : length (flat c M) ≡ length M * (c + 2)
+  flat-size = flat-length c M (λ e m. sound-wide c (length K) (low .held .some) e (joins .each e m))
 
-  rows-few : rowsAfter (length K) M ≤ 4096
+  pub rows-few : rowsAfter (length K) M ≤ 4096
   rows-few = omega (arith, joins .rows, up .few)
 
   module _ {m : ℕ} {old new : List ℕ} (g : Woven c (wovenLayer K N R W) m old new) where
@@ -118,10 +125,7 @@ module _ {c : ℕ} {K N : List ℕ} {mR : ℕ} {rawR : List ℕ} {mW : ℕ} {raw
     enough len k e h = rw (le-ltb (room c len) (length M) (omega (arith, entries)), le-ltb mostRows (rowsAfter (length K) M) rows-few, entries)
 
     pub there : (len k : ℕ) → k ≡ room c len → m ≤ k → m * (c + 2) ≤ len
-    unfolding room
-    there len k e h =
-        let q : m ≤ len / (c + 2) = omega arith in
-        omega (arith, mul-le-mul-right {m = m} {n = len / (c + 2)} (c + 2) q, div-mul-le-self len (c + 2))
+    there len k e h = (room-fits c len m (omega arith)) .1
 
     -- what is copied
     pub copied : (out done part : List ℕ) → part ≡ take (m * (c + 2)) new → done ≡ paste out 0 part (length part)

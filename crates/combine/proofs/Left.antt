@@ -1,33 +1,26 @@
 -- The entries of a slice from number i on: one step, some steps, the end; what holds of all entries holds of them; their numbers.
 -- Assumes nothing.
 use mathlib.Core.Path.{_≡_, refl, sym, ap, subst, _∙_}
-use mathlib.Core.Bool.{true, _&&_}
+use mathlib.Core.Bool.{true}
 use mathlib.Core.List.{
   List,
   [],
   _∷_,
-  _++_,
   map,
-  append-assoc,
   List·Memᴰ as Mem,
   Memᴰ·append-right as append-right,
   List·Memᴰ·head as here,
-  List·Memᴰ·tail as next,
   Memᴰ·cast as mem-cast,
 }
 use Prim.Native.Nat.{ℕ, zero, suc, _+_, _*_, _-_, _≤_, _<_}
-use native.Mathlib.Nat.{sub-zero, zero-mul, suc-mul, add-mul, zero-add, add-zero}
+use native.Mathlib.Nat.{sub-zero, zero-mul, suc-mul, add-mul, zero-add}
 use native.Mathlib.Omega.{arith}
-use lib.ListN.{length, getD, take, drop, replicate, length-append, length-replicate, length-map}
-use lib.Dec.{eqb, leb}
-use borrow.Author.Tests.{eqb-true}
-use Rattle.order.proofs.Tests.{and-r}
+use lib.ListN.{length, take, drop, length-map}
 use Rattle.order.proofs.Members.{mem-map, map-mem}
 use Rattle.model.specs.declared.Entry.{Entry}
-use Rattle.model.specs.Cell.{to}
-use Rattle.model.specs.Layer.{Deed, add, strike, change, Edit, at, Layer}
-use Rattle.model.specs.Form.{sound, zeros}
-use Rattle.model.specs.Raw.{Held, entryAt, entriesAt, entriesOf, editOf, layerOf, numbersOf, flat}
+use Rattle.model.specs.Layer.{Edit, Layer}
+use Rattle.model.specs.Form.{zeros}
+use Rattle.model.specs.Raw.{entryAt, entriesAt, entriesOf, editOf, layerOf, flat}
 use Rattle.model.proofs.Raw.{rest-step, rest-end, entries-add, entries-length, within}
 use Rattle.form.proofs.Flat.{flat-entries}
 use Rattle.combine.specs.Walk.{entriesLeft, lefts}
@@ -91,26 +84,3 @@ module _ (c m : ℕ) (xs : List ℕ) where
       let s = mul-split i m (c + 2) h in
       let n : (m - i) * (c + 2) ≡ m * (c + 2) - i * (c + 2) = omega (arith, s) in
       flat-entries c (m - i) (i * (c + 2)) xs (omega (arith, s)) o z ∙ ap (λ (k : ℕ). take k (drop (i * (c + 2)) xs)) n
-
-pub flat-append : (c : ℕ) (L M : Layer) → flat c (L ++ M) ≡ flat c L ++ flat c M
-unfolding flat
-flat-append c [] M = refl
-flat-append c (e ∷ L) M = ap (λ (t : List ℕ). numbersOf c e ++ t) (flat-append c L M) ∙ sym (append-assoc (numbersOf c e) (flat c L) (flat c M))
-
--- a sound edit has c + 2 numbers, so a layer of m has m times as many
-numbers-length : (c n : ℕ) (e : Edit) → 1 ≤ c → sound c n e ≡ true → length (numbersOf c e) ≡ c + 2
-numbers-length c n (at s (add r)) h z = omega (arith, eqb-true (length r) c (and-r (leb s n) (eqb (length r) c) z))
-numbers-length c n (at s (strike k)) h z = omega (arith, length-replicate {A = ℕ} (c - 1) 0)
-numbers-length c n (at s (change j (to v))) h z = omega (arith, length-replicate {A = ℕ} (c - 1) 0)
-
-pub flat-length : (c n : ℕ) (L : Layer) → 1 ≤ c → ((e : Edit) → Mem e L → sound c n e ≡ true) → length (flat c L) ≡ length L * (c + 2)
-unfolding flat
-flat-length c n [] h z = sym (zero-mul (c + 2))
-flat-length c n (e ∷ L) h z =
-    omega (
-      arith,
-      length-append (numbersOf c e) (flat c L),
-      numbers-length c n e h (z e (here refl)),
-      flat-length c n L h (λ x m. z x (next m)),
-      suc-mul (length L) (c + 2),
-    )

@@ -11,3 +11,6 @@ pub mod Walking
 pub mod Finishing
 pub mod Joining
 pub mod Answering
+pub mod Accepting
+pub mod Promises
+pub mod Examples

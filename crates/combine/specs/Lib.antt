@@ -1,3 +1,4 @@
 pub mod Woven
 pub mod Walk
 pub mod Rows
+pub mod Promises

@@ -63,6 +63,14 @@ fn past(args: &[u64], was: &[u64], x: &mut [u64], keys: &[u64], y: &[u64]) {
     say::left(was, x);
 }
 
+// combine c mr mw ; buffer ; keys ; R ; W
+fn combine(args: &[u64], was: &[u64], out: &mut [u64], keys: &[u64], lower: &[u64], upper: &[u64]) {
+    let mr = arg(args, 1);
+    let mw = arg(args, 2);
+    say::answer(combine::combine(arg(args, 0), keys, mr, lower, mw, upper, out));
+    say::left(was, out);
+}
+
 // The call that a case's letter names.
 fn on(
     word: u8,
@@ -90,6 +98,9 @@ fn on(
     }
     if word == b'h' {
         return change(args, was, lent, one);
+    }
+    if word == b'o' {
+        return combine(args, was, lent, one, two, three);
     }
     if word == b'm' {
         return past(args, was, lent, one, two);

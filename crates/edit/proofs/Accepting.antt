@@ -1,14 +1,15 @@
--- What is known once an edit is accepted: the step is allowed on what is shown, and the result has room and at most 4,096 rows.
+-- What is known once an edit is accepted: the step is allowed on what is shown, and the result has room and at most
+-- 4,096 rows.
 -- Assumes nothing.
-use Prim.Native.Nat.{ℕ, suc, _+_, _≤_, _<_}
+use Prim.Native.Nat.{ℕ, _≤_, _<_}
 use native.Mathlib.Omega.{arith}
 use mathlib.Core.Path.{_≡_, refl, sym, ap, _∙_}
-use mathlib.Core.Bool.{Bool, true, false, not, cond, true≢false}
+use mathlib.Core.Bool.{Bool, true, false, cond, true≢false}
 use mathlib.Core.List.{List, [], _∷_, List·Memᴰ as Mem}
 use lib.ListN.{length, getD}
 use lib.Dec.{ltb, leb, eqb}
 use borrow.Author.Tests.{ltb-true, ltb-false, leb-false, eqb-true, eqb-false, eq-eqb}
-use Rattle.order.specs.Lists.{any, ascending}
+use Rattle.order.specs.Lists.{any}
 use Rattle.order.proofs.Members.{any-of, mem-map}
 use Rattle.order.proofs.Ascending.{AscFrom, At, asc-of, getD-at}
 use Rattle.model.specs.declared.Refusal.{Refusal}
@@ -18,9 +19,8 @@ use Rattle.model.specs.Row.{Row, Table, key, keys}
 use Rattle.model.specs.Cell.{to}
 use Rattle.model.specs.Layer.{Layer, rowsAfter}
 use Rattle.model.specs.Raw.{layerOf, room as roomOf}
-use Rattle.model.specs.Form.{inOrder}
 use Rattle.model.specs.Read.{read, keysAfter}
-use Rattle.model.specs.Refusals.{Test, refuse, refusal, firstMet, badRow, noRoom, tooManyRows, shownKey}
+use Rattle.model.specs.Refusals.{refuse, refusal, firstMet, badRow, noRoom, tooManyRows, shownKey}
 use Rattle.model.specs.Steps.{Step, adding, striking, changing, stepOn, Allowed}
 use Rattle.model.specs.Calls.{addAnswer, strikeAnswer, changeAnswer}
 use Rattle.model.proofs.Fit.{Good, good-of, key-kept, keys-length}
@@ -85,7 +85,8 @@ module _ (c m : ℕ) (raw : List ℕ) (T : Table) where
     -- a key that is not shown is no row's
     free : (r : Row) → shownKey (key r) (keysAfter K L) ≡ false → (q : Row) → Mem q (read T L) → key q ≡ key r → ⊥
     free r h q n e =
-        true≢false (sym (any-of (eqb (key r)) (keys (read T L)) (key q) (mem-map key (read T L) q n) (eq-eqb (key r) (key q) (sym e)))
+        true≢false (sym (any-of (eqb (key r)) (keys (read T L)) (key q) (mem-map key (read T L) q n)
+        (eq-eqb (key r) (key q) (sym e)))
         ∙ (ap (any (eqb (key r))) (sym (keys-read T L (key-kept T L (is-good .fit)))) ∙ h))
 
   pub add-accepts : (row : Row) (k : ℕ) → addAnswer c m raw K row ≡ Done k → Accepts c m raw T (adding row) k
@@ -99,8 +100,10 @@ module _ (c m : ℕ) (raw : List ℕ) (T : Table) where
           let many = tooManyRows (rowsAfter (length K) M) ∷ [] in
           let w = reached (readyAnswer c m raw K) (addRest c m raw K row) (sym (add-rest c m raw K row wide) ∙ h) in
           let R = ready-of c m raw K (w .0) (w .1) .0 in
-          let t7 = unmet (shownKey (key row) (keysAfter K L)) (refusal 7 0) (firstMet Refused (noRoom c (length raw) M ∷ many) (Done (length M))) (w .2) in
-          let t9 = unmet (ltb (roomOf c (length raw)) (length M)) (refusal 9 0) (firstMet Refused many (Done (length M))) (t7 .1) in
+          let t7 = unmet (shownKey (key row) (keysAfter K L)) (refusal 7 0)
+          (firstMet Refused (noRoom c (length raw) M ∷ many) (Done (length M))) (w .2) in
+          let t9 = unmet (ltb (roomOf c (length raw)) (length M)) (refusal 9 0)
+          (firstMet Refused many (Done (length M))) (t7 .1) in
           let t10 = unmet (ltb 4096 (rowsAfter (length K) M)) (refusal 10 0) (Done (length M)) (t9 .1) in
           record {
             form = form-is R;
@@ -116,8 +119,9 @@ module _ (c m : ℕ) (raw : List ℕ) (T : Table) where
   strike-accepts r k h =
       let M = stepOn K (striking r) L in
       let last = firstMet Refused (noRoom c (length raw) M ∷ []) (Done (length M)) in
-      let w = reached (readyAnswer c m raw K) (firstMet Refused (badRow (length K) L r ∷ noRoom c (length raw) M ∷ []) (Done (length M)))
-          (sym (strike-rest c m raw K r) ∙ h) in
+      let w = reached (readyAnswer c m raw K)
+      (firstMet Refused (badRow (length K) L r ∷ noRoom c (length raw) M ∷ []) (Done (length M)))
+      (sym (strike-rest c m raw K r) ∙ h) in
       let R = ready-of c m raw K (w .0) (w .1) .0 in
       let t5 = unmet (leb (rowsAfter (length K) L) r) (refusal 5 0) last (w .2) in
       let t9 = unmet (ltb (roomOf c (length raw)) (length M)) (refusal 9 0) (Done (length M)) (t5 .1) in
@@ -129,7 +133,11 @@ module _ (c m : ℕ) (raw : List ℕ) (T : Table) where
         allowed = below;
         size = done-is (t9 .1);
         room = omega (arith, ltb-false (roomOf c (length raw)) (length M) (t9 .0), done-is (t9 .1));
-        rows = omega (arith, strike-rows c T L (asc R) (is-good R) r (getD (read T L) r []) (row-at R r below), form-is R .few);
+        rows = omega (
+          arith,
+          strike-rows c T L (asc R) (is-good R) r (getD (read T L) r []) (row-at R r below),
+          form-is R .few,
+        );
       }
 
   pub change-accepts : (r j v k : ℕ) → changeAnswer c m raw K r j v ≡ Done k → Accepts c m raw T (changing r j (to v)) k
@@ -143,13 +151,15 @@ module _ (c m : ℕ) (raw : List ℕ) (T : Table) where
           let last = firstMet Refused (noRoom c (length raw) M ∷ []) (Done (length M)) in
           let column = firstMet Refused (refuse 6 0 (eqb j 0) ∷ noRoom c (length raw) M ∷ []) (Done (length M)) in
           let w = reached (readyAnswer c m raw K)
-              (firstMet Refused (badRow (length K) L r ∷ refuse 6 0 (eqb j 0) ∷ noRoom c (length raw) M ∷ []) (Done (length M)))
-              (sym (change-rest c m raw K r j v within) ∙ h) in
+          (firstMet Refused (badRow (length K) L r ∷ refuse 6 0 (eqb j 0) ∷ noRoom c (length raw) M ∷ [])
+          (Done (length M)))
+          (sym (change-rest c m raw K r j v within) ∙ h) in
           let R = ready-of c m raw K (w .0) (w .1) .0 in
           let t5 = unmet (leb (rowsAfter (length K) L) r) (refusal 5 0) column (w .2) in
           let t6 = unmet (eqb j 0) (refusal 6 0) last (t5 .1) in
           let t9 = unmet (ltb (roomOf c (length raw)) (length M)) (refusal 9 0) (Done (length M)) (t6 .1) in
-          let below : r < length (read T L) = omega (arith, leb-false (rowsAfter (length K) L) r (t5 .0), shown-count R) in
+          let below : r < length (read T L) =
+          omega (arith, leb-false (rowsAfter (length K) L) r (t5 .0), shown-count R) in
           let past : 1 ≤ j = omega (arith, eqb-false j 0 (t6 .0)) in
           record {
             form = form-is R;
@@ -159,7 +169,12 @@ module _ (c m : ℕ) (raw : List ℕ) (T : Table) where
             size = done-is (t9 .1);
             room = omega (arith, ltb-false (roomOf c (length raw)) (length M) (t9 .0), done-is (t9 .1));
             rows =
-              omega (arith, change-rows c T L (asc R) (is-good R) r (getD (read T L) r []) (row-at R r below) j (to v) past within, form-is R .few);
+                omega (
+                  arith,
+                  change-rows c T L (asc R) (is-good R) r (getD (read T L) r []) (row-at R r below) j
+                      (to v) past within,
+                  form-is R .few,
+                );
           }
 
   pub accepts : (x : Step) (k : ℕ) → stepAnswer c m raw K x ≡ Done k → Accepts c m raw T x k

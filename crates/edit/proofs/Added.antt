@@ -1,24 +1,20 @@
 -- Adding a row: its add lands before the first entry that does not stand before it.
 -- Assumes nothing.
-use Prim.Native.Nat.{ℕ, zero, suc, _+_, _-_, _*_, _≤_, _<_}
+use Prim.Native.Nat.{ℕ, zero, suc, _+_, _-_, _≤_, _<_}
 use native.Mathlib.Nat.{add-zero, zero-add, sub-zero, zero-sub, suc-sub-suc}
 use native.Mathlib.Omega.{arith}
 use mathlib.Core.Path.{_≡_, refl, sym, ap, _∙_}
-use mathlib.Core.Bool.{Bool, true, false, not, cond, _&&_}
-use mathlib.Core.List.{List, [], _∷_, _++_, List·Memᴰ as Mem}
+use mathlib.Core.Bool.{true, false}
+use mathlib.Core.List.{List, _∷_, _++_}
 use lib.ListN.{length, getD, take, drop, replicate}
 use lib.Seq.{paste, take-at, take-length}
-use lib.Dec.{ltb, leb, eqb}
-use borrow.Author.Tests.{lt-ltb, le-ltb, le-leb, eq-eqb}
-use Rattle.order.specs.Lists.{count}
-use Rattle.order.proofs.Tests.{and-of}
-use Rattle.order.proofs.Counts.{count-le, count-insert}
+use borrow.Author.Tests.{lt-ltb, le-ltb}
+use Rattle.order.proofs.Counts.{count-insert}
 use Rattle.model.specs.declared.Entry.{Entry}
-use Rattle.model.specs.declared.Answer.{Answer}
 use Rattle.model.specs.declared.Answer.the-variants.{Done, Refused}
 use Rattle.model.specs.Row.{Row, key}
-use Rattle.model.specs.Layer.{add, Edit, at, Layer, isAdd, isStrike, rowsAfter}
-use Rattle.model.specs.Raw.{ADD, addEntry, layerOf, numbersOf, room}
+use Rattle.model.specs.Layer.{add, at, Layer, isAdd, isStrike, rowsAfter}
+use Rattle.model.specs.Raw.{ADD, addEntry, layerOf, room}
 use Rattle.model.specs.Fit.{keysBelow}
 use Rattle.model.specs.Read.{keysAfter}
 use Rattle.model.specs.Refusals.{refusal, shownKey}
@@ -27,7 +23,6 @@ use Rattle.model.specs.Calls.{edited, addedLayer}
 use Rattle.model.proofs.Edits.{before-trans}
 use Rattle.model.proofs.Edited.{add-length}
 use Rattle.write.specs.Replaced.{entryNumbers, replaced}
-use Rattle.write.proofs.Layers.{sound-wide}
 use Rattle.edit.specs.Landing.{aim, landing}
 use Rattle.edit.specs.Outcome.{addRest}
 use Rattle.edit.proofs.Splice.{front, rest, insert-at}
@@ -83,11 +78,22 @@ module _ (c m : ℕ) (raw K : List ℕ) (row : Row) (N : Known c m raw K) (l : l
     module _ (fits : m + 1 ≤ room c (length raw)) where
       pub add-too-many : 4096 ≤ rowsAfter (length K) L → Refused (refusal 10 0) ≡ addRest c m raw K row
       add-too-many h =
-          rw (free, le-ltb (room c (length raw)) (length M) (omega (arith, size)), lt-ltb 4096 (rowsAfter (length K) M) (omega (arith, rows)))
+          rw (
+            free,
+            le-ltb (room c (length raw)) (length M) (omega (arith, size)),
+            lt-ltb 4096
+                (rowsAfter (length K) M) (omega (arith, rows)),
+          )
 
       pub add-done : rowsAfter (length K) L < 4096 → Done (m + 1) ≡ addRest c m raw K row
       add-done h =
-          rw (free, le-ltb (room c (length raw)) (length M) (omega (arith, size)), le-ltb 4096 (rowsAfter (length K) M) (omega (arith, rows)), ← size)
+          rw (
+            free,
+            le-ltb (room c (length raw)) (length M) (omega (arith, size)),
+            le-ltb 4096
+                (rowsAfter (length K) M) (omega (arith, rows)),
+            ← size,
+          )
 
   -- where the add lands
   module _ (i : ℕ) (lands : i ≡ landing (aim p ADD (key row)) L) where
@@ -99,7 +105,8 @@ module _ (c m : ℕ) (raw K : List ℕ) (row : Row) (N : Known c m raw K) (l : l
     add-splice =
         insert-at before (at p (add row)) i L
         (λ d n. sym (aim-add d p row) ∙ front before (aim p ADD (key row)) L d (rw lands at n))
-        (λ d n. sym (aim-add d p row) ∙ rest before (aim p ADD (key row)) before-trans L (N .good .fit .sorted) d (rw lands at n))
+        (λ d n. sym (aim-add d p row) ∙ rest before (aim p ADD (key row)) before-trans L (N .good .fit .sorted) d
+        (rw lands at n))
         ∙ ap (λ (n : ℕ). take i L ++ (at p (add row) ∷ drop n L)) (sym (add-zero i))
 
     pub add-slice : (e : Entry) → e ≡ addEntry p (row ++ replicate (8 - length row) 0)

@@ -2,13 +2,13 @@
 -- Assumes nothing.
 use Prim.Native.Nat.{ℕ, _+_, _≤_, _<_}
 use native.Mathlib.Omega.{arith}
-use mathlib.Core.Path.{_≡_, refl, sym, ap, _∙_}
-use mathlib.Core.Bool.{Bool, true, false, not, cond, _&&_, and-true, and-false}
+use mathlib.Core.Path.{_≡_, refl, sym, _∙_}
+use mathlib.Core.Bool.{Bool, true, false, not, cond, and-true, and-false}
 use mathlib.Core.List.{List, [], _∷_}
 use lib.ListN.{length}
-use lib.Dec.{ltb, leb, eqb}
+use lib.Dec.{ltb, eqb}
 use borrow.Author.Tests.{lt-ltb, le-ltb, le-leb, lt-leb, ltb-false, eq-eqb, ne-eqb}
-use Rattle.order.specs.Lists.{ascending, leastBroken}
+use Rattle.order.specs.Lists.{ascending}
 use Rattle.order.proofs.Pairs.{broken-le}
 use Rattle.model.specs.declared.Refusal.{Refusal}
 use Rattle.model.specs.declared.Answer.{Answer}
@@ -18,16 +18,40 @@ use Rattle.model.specs.Layer.{Layer, rowsAfter}
 use Rattle.model.specs.Raw.{entriesOf, layerOf}
 use Rattle.model.specs.Form.{argsOk, formPlace}
 use Rattle.model.specs.Fit.{suits, rises, fitPlace, fits}
-use Rattle.model.specs.Refusals.{Test, refuse, refusal, firstMet, badArgs, badForm, badKeys, badFit, badRow, noRoom, tooManyRows, shownKey, breaksForm}
+use Rattle.model.specs.Refusals.{
+  Test,
+  refuse,
+  refusal,
+  firstMet,
+  badArgs,
+  badForm,
+  badKeys,
+  badFit,
+  badRow,
+  noRoom,
+  tooManyRows,
+  shownKey,
+  breaksForm,
+}
 use Rattle.model.specs.Read.{keysAfter}
-use Rattle.model.specs.Calls.{formAnswer, fitAnswer, addAnswer, addedLayer, strikeAnswer, struckLayer, changeAnswer, changedLayer}
+use Rattle.model.specs.Calls.{
+  formAnswer,
+  fitAnswer,
+  addAnswer,
+  addedLayer,
+  strikeAnswer,
+  struckLayer,
+  changeAnswer,
+  changedLayer,
+}
 use Rattle.form.proofs.Answers.{onward, after-fit}
 use Rattle.edit.specs.Ready.{Ready, withRows, readyAnswer}
 use Rattle.edit.specs.Outcome.{countAnswer, addRest}
 
 -- none of the four refusals is met
 passed : (a b d e : Bool) (x y : Refusal) {k rows : ℕ}
-    → withRows rows (cond (not a) (Refused (refusal 1 0)) (cond b (Refused x) (cond (not d) (Refused (refusal 3 0)) (cond e (Refused y) (Done 0))))) ≡ Done k
+    → withRows rows (cond (not a) (Refused (refusal 1 0))
+    (cond b (Refused x) (cond (not d) (Refused (refusal 3 0)) (cond e (Refused y) (Done 0))))) ≡ Done k
     → (a ≡ true) × (b ≡ false) × (d ≡ true) × (e ≡ false) × (rows ≡ k)
 passed false b d e x y h = absurd (let z : _≡_ {A = ℕ} 0 1 = cc in omega arith)
 passed true true d e x y h = absurd (let z : _≡_ {A = ℕ} 0 1 = cc in omega arith)
@@ -45,7 +69,8 @@ module _ (c m : ℕ) (raw K : List ℕ) where
   pub ready-of : (rows : ℕ) → readyAnswer c m raw K ≡ Done rows → Ready c m raw K × (rows ≡ shown)
   unfolding readyAnswer fitAnswer formAnswer fits fitPlace
   ready-of rows h =
-      let p = passed (argsOk c (length K) m (length raw)) (breaksForm c (length K) m raw) (ascending K) (ltb (fitPlace K L) (length L))
+      let p = passed (argsOk c (length K) m (length raw)) (breaksForm c (length K) m raw) (ascending K)
+      (ltb (fitPlace K L) (length L))
       (refusal 2 (0 + formPlace c (length K) (entriesOf c m raw))) (refusal 4 (0 + fitPlace K L)) h in (
         record {
           form = rw (p .0, p .1);
@@ -58,12 +83,14 @@ module _ (c m : ℕ) (raw K : List ℕ) where
 
   -- the first four rows of an edit's table
   after-ready : (tests : List Test) (z : Answer)
-      → firstMet Refused (badArgs (argsOk c (length K) m (length raw)) ∷ badForm 0 c (length K) m raw ∷ badKeys K ∷ badFit 0 K L ∷ tests) z
+      → firstMet Refused (badArgs (argsOk c (length K) m (length raw)) ∷ badForm 0 c (length K) m raw ∷ badKeys
+      K ∷ badFit 0 K L ∷ tests) z
       ≡ onward Refused (readyAnswer c m raw K) (firstMet Refused tests z)
   unfolding readyAnswer
   after-ready tests z = after-fit Refused c m raw K tests z ∙ by (fitAnswer c m raw K)
     where
-      by : (a : Answer) → onward Refused a (firstMet Refused tests z) ≡ onward Refused (withRows shown a) (firstMet Refused tests z)
+      by : (a : Answer) → onward Refused a (firstMet Refused tests z) ≡ onward Refused (withRows shown a)
+          (firstMet Refused tests z)
       by (Done k) = refl
       by (Refused x) = refl
 
@@ -81,7 +108,8 @@ module _ (c m : ℕ) (raw K : List ℕ) where
       unfolding addAnswer
       add-rest =
           rw (eq-eqb (length row) c wide, and-true)
-          (after-ready (refuse 7 0 (shownKey (key row) (keysAfter K L)) ∷ noRoom c (length raw) addedTo ∷ tooManyRows (rowsAfter (length K) addedTo) ∷ [])
+          (after-ready (refuse 7 0 (shownKey (key row) (keysAfter K L)) ∷ noRoom c (length raw) addedTo ∷ tooManyRows
+          (rowsAfter (length K) addedTo) ∷ [])
           (Done (length addedTo)))
 
       pub add-refused : (x : Refusal) → readyAnswer c m raw K ≡ Refused x → Refused x ≡ addAnswer c m raw K row
@@ -96,17 +124,20 @@ module _ (c m : ℕ) (raw K : List ℕ) where
     struckTo = struckLayer c m raw K r
 
     pub strike-rest : strikeAnswer c m raw K r
-        ≡ onward Refused (readyAnswer c m raw K) (firstMet Refused (badRow (length K) L r ∷ noRoom c (length raw) struckTo ∷ []) (Done (length struckTo)))
+        ≡ onward Refused (readyAnswer c m raw K)
+        (firstMet Refused (badRow (length K) L r ∷ noRoom c (length raw) struckTo ∷ []) (Done (length struckTo)))
     unfolding strikeAnswer
     strike-rest = after-ready (badRow (length K) L r ∷ noRoom c (length raw) struckTo ∷ []) (Done (length struckTo))
 
     pub strike-refused : (x : Refusal) → readyAnswer c m raw K ≡ Refused x → Refused x ≡ strikeAnswer c m raw K r
     strike-refused x h = sym (strike-rest ∙ rw h)
 
-    pub strike-no-row : (rows : ℕ) → readyAnswer c m raw K ≡ Done rows → rows ≤ r → Refused (refusal 5 0) ≡ strikeAnswer c m raw K r
+    pub strike-no-row : (rows : ℕ) → readyAnswer c m raw K ≡ Done rows → rows ≤ r
+        → Refused (refusal 5 0) ≡ strikeAnswer c m raw K r
     strike-no-row rows h l = sym (strike-rest ∙ rw (h, le-leb shown r (omega (arith, ready-of rows h .1))))
 
-    pub strike-row : (rows : ℕ) → readyAnswer c m raw K ≡ Done rows → r < rows → countAnswer c (length raw) (length struckTo) ≡ strikeAnswer c m raw K r
+    pub strike-row : (rows : ℕ) → readyAnswer c m raw K ≡ Done rows → r < rows
+        → countAnswer c (length raw) (length struckTo) ≡ strikeAnswer c m raw K r
     strike-row rows h l = sym (strike-rest ∙ rw (h, lt-leb shown r (omega (arith, ready-of rows h .1))))
 
   -- change
@@ -121,21 +152,27 @@ module _ (c m : ℕ) (raw K : List ℕ) where
     module _ (l : j < c) where
       pub change-rest : changeAnswer c m raw K r j v
           ≡ onward Refused (readyAnswer c m raw K)
-          (firstMet Refused (badRow (length K) L r ∷ refuse 6 0 (eqb j 0) ∷ noRoom c (length raw) changedTo ∷ []) (Done (length changedTo)))
+          (firstMet Refused (badRow (length K) L r ∷ refuse 6 0 (eqb j 0) ∷ noRoom c (length raw) changedTo ∷ [])
+          (Done (length changedTo)))
       unfolding changeAnswer
       change-rest =
           rw (lt-ltb j c l, and-true)
-          (after-ready (badRow (length K) L r ∷ refuse 6 0 (eqb j 0) ∷ noRoom c (length raw) changedTo ∷ []) (Done (length changedTo)))
+          (after-ready (badRow (length K) L r ∷ refuse 6 0 (eqb j 0) ∷ noRoom c (length raw) changedTo ∷ [])
+          (Done (length changedTo)))
 
       pub change-refused : (x : Refusal) → readyAnswer c m raw K ≡ Refused x → Refused x ≡ changeAnswer c m raw K r j v
       change-refused x h = sym (change-rest ∙ rw h)
 
-      pub change-no-row : (rows : ℕ) → readyAnswer c m raw K ≡ Done rows → rows ≤ r → Refused (refusal 5 0) ≡ changeAnswer c m raw K r j v
+      pub change-no-row : (rows : ℕ) → readyAnswer c m raw K ≡ Done rows → rows ≤ r
+          → Refused (refusal 5 0) ≡ changeAnswer c m raw K r j v
       change-no-row rows h g = sym (change-rest ∙ rw (h, le-leb shown r (omega (arith, ready-of rows h .1))))
 
-      pub change-key : (rows : ℕ) → readyAnswer c m raw K ≡ Done rows → r < rows → j ≡ 0 → Refused (refusal 6 0) ≡ changeAnswer c m raw K r j v
-      change-key rows h g e = sym (change-rest ∙ rw (h, lt-leb shown r (omega (arith, ready-of rows h .1)), eq-eqb j 0 e))
+      pub change-key : (rows : ℕ) → readyAnswer c m raw K ≡ Done rows → r < rows → j ≡ 0
+          → Refused (refusal 6 0) ≡ changeAnswer c m raw K r j v
+      change-key rows h g e =
+          sym (change-rest ∙ rw (h, lt-leb shown r (omega (arith, ready-of rows h .1)), eq-eqb j 0 e))
 
       pub change-row : (rows : ℕ) → readyAnswer c m raw K ≡ Done rows → r < rows → (j ≡ 0 → ⊥)
           → countAnswer c (length raw) (length changedTo) ≡ changeAnswer c m raw K r j v
-      change-row rows h g e = sym (change-rest ∙ rw (h, lt-leb shown r (omega (arith, ready-of rows h .1)), ne-eqb j 0 e))
+      change-row rows h g e =
+          sym (change-rest ∙ rw (h, lt-leb shown r (omega (arith, ready-of rows h .1)), ne-eqb j 0 e))

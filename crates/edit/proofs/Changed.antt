@@ -1,13 +1,12 @@
 -- Changing a cell of a base row: its old change, if there is one, stands right where the new one lands.
 -- Assumes nothing.
-use Prim.Native.Nat.{ℕ, zero, suc, _+_, _-_, _≤_, _<_}
+use Prim.Native.Nat.{ℕ, _+_, _-_, _≤_, _<_}
 use native.Mathlib.Nat.{add-zero}
 use native.Mathlib.Omega.{arith}
 use mathlib.Core.Path.{_≡_, refl, sym, ap, _∙_}
-use mathlib.Core.Logic.{_⊎_, inl, inr, ⊎-elim}
-use mathlib.Core.Bool.{Bool, true, false, not, cond, _&&_, _||_, true≢false, and-false}
+use mathlib.Core.Logic.{_⊎_, ⊎-elim}
+use mathlib.Core.Bool.{Bool, true, false, cond, _&&_, true≢false, and-false}
 use mathlib.Core.List.{
-  List,
   [],
   _∷_,
   _++_,
@@ -18,17 +17,16 @@ use mathlib.Core.List.{
   List·Memᴰ·cases-cons as cases-cons,
   List·Memᴰ·eq-of-singleton as eq-of-singleton,
 }
-use lib.ListN.{length, getD, take, drop}
-use lib.Dec.{ltb, eqb}
+use lib.ListN.{getD, take, drop}
+use lib.Dec.{eqb}
 use borrow.Author.Tests.{eqb-true, ne-eqb, ltb-true}
-use Rattle.order.specs.Lists.{insert, filter, firstAt}
 use Rattle.order.proofs.Tests.{and-l, and-r, not-passed, eqb-sym}
 use Rattle.order.proofs.Pairs.{AllPairs}
 use Rattle.model.specs.declared.Entry.{Entry}
 use Rattle.model.specs.Cell.{CellEdit, to}
-use Rattle.model.specs.Layer.{Deed, add, strike, change, Edit, at, Layer, changesCell}
+use Rattle.model.specs.Layer.{add, strike, change, Edit, at, Layer, changesCell}
 use Rattle.model.specs.Raw.{ADD, STRIKE, editOf}
-use Rattle.model.specs.Edits.{deedBefore, before, changeBase}
+use Rattle.model.specs.Edits.{before, changeBase}
 use Rattle.model.proofs.Edits.{before-cases, before-trans}
 use Rattle.edit.specs.Landing.{aim, landing}
 use Rattle.edit.specs.Ready.{entryIs}
@@ -49,10 +47,13 @@ pub cell-is : (E : Entry) (s j : ℕ) → j < 8 → changesCell s j (editOf E) �
 cell-is E s j h = by (eqb (E .kind) ADD) refl (eqb (E .kind) STRIKE) refl
   where
     other : (k : ℕ) → 8 ≤ k → E .kind ≡ k → false ≡ entryIs s j E
-    other k l e = sym (ap (λ (t : Bool). eqb (E .pos) s && t) (ne-eqb (E .kind) j (λ g. omega arith)) ∙ and-false (eqb (E .pos) s))
+    other k l e = sym (ap (λ (t : Bool). eqb (E .pos) s && t) (ne-eqb (E .kind) j (λ g. omega arith))
+        ∙ and-false (eqb (E .pos) s))
 
     by : (a : Bool) → eqb (E .kind) ADD ≡ a → (b : Bool) → eqb (E .kind) STRIKE ≡ b
-        → changesCell s j (at (E .pos) (cond a (add (E .vals)) (cond b (strike (getD (E .vals) 0 0)) (change (E .kind) (to (getD (E .vals) 0 0))))))
+        → changesCell s j (at (E .pos)
+        (cond a (add (E .vals))
+        (cond b (strike (getD (E .vals) 0 0)) (change (E .kind) (to (getD (E .vals) 0 0))))))
         ≡ entryIs s j E
     by true e b f = other ADD (omega arith) (eqb-true (E .kind) ADD e)
     by false e true f = other STRIKE (omega arith) (eqb-true (E .kind) STRIKE f)
@@ -87,13 +88,15 @@ module _ (s j : ℕ) (f : CellEdit) where
 
     later : (d : Edit) → Mem d (drop i L) → before d (at s (change j f)) ≡ false
     unfolding landing
-    later d m = same-change d s j f (to 0) ∙ rest before (at s (change j (to 0))) before-trans L sorted d (rw lands at m)
+    later d m = same-change d s j f (to 0) ∙ rest before (at s (change j (to 0))) before-trans L sorted d
+        (rw lands at m)
 
     -- behind the first that does not stand before it, no edit changes the cell
     behind : (x : Edit) (R : Layer) → drop i L ≡ x ∷ R → (d : Edit) → Mem d R → changesCell s j d ≡ false
     behind x R e d m =
         not-passed (changesCell s j d)
-        (λ h. true≢false (sym (sym (alike d x h) ∙ (rw e at (pairs-drop before i L sorted)) .0 d m) ∙ later x (rw e (here refl))))
+        (λ h. true≢false (sym (sym (alike d x h) ∙ (rw e at (pairs-drop before i L sorted)) .0 d m)
+        ∙ later x (rw e (here refl))))
 
     -- there is an old change
     pub change-replaced : (x : Edit) (R : Layer) → drop i L ≡ x ∷ R → drop (i + 1) L ≡ R → changesCell s j x ≡ true

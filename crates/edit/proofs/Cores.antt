@@ -3,8 +3,8 @@
 use Prim.Native.Nat.{ℕ, suc, _+_, _-_, _*_, _≤_, _<_}
 use native.Mathlib.Omega.{arith}
 use mathlib.Core.Path.{_≡_, refl, sym, ap, _∙_}
-use mathlib.Core.Bool.{Bool, true, false, _&&_}
-use mathlib.Core.List.{List, [], _∷_, _++_}
+use mathlib.Core.Bool.{true, false, _&&_}
+use mathlib.Core.List.{List, _∷_, _++_}
 use lib.ListN.{length, getD, take, drop}
 use lib.Dec.{ltb, leb}
 use borrow.Author.Tests.{lt-ltb, le-leb}
@@ -12,8 +12,8 @@ use Rattle.order.proofs.Tests.{and-of}
 use Rattle.model.specs.declared.Entry.{Entry}
 use Rattle.model.specs.declared.Answer.{Answer}
 use Rattle.model.specs.Cell.{to}
-use Rattle.model.specs.Layer.{add, strike, change, Edit, at, Layer, struck, changesCell}
-use Rattle.model.specs.Raw.{ADD, STRIKE, strikeEntry, changeEntry, entryAt, editOf, layerOf, numbersOf}
+use Rattle.model.specs.Layer.{strike, change, Edit, at, Layer, struck, changesCell}
+use Rattle.model.specs.Raw.{ADD, STRIKE, strikeEntry, changeEntry, entryAt, editOf, layerOf}
 use Rattle.model.specs.Edits.{strikeBase, changeBase}
 use Rattle.write.specs.Replaced.{entryNumbers, replaced}
 use Rattle.write.proofs.Layers.{sound-wide, strike-numbers, change-numbers}
@@ -47,7 +47,8 @@ module _ (c m s : ℕ) (raw K : List ℕ) (N : Known c m raw K) where
     strike-entered new r e u f w =
         let h = N .acc .held in
         let k = getD K s 0 in
-        entered c m i (end - i) raw (entryNumbers c e) L (strikeBase K s L) (at s (strike k)) (N .written) (strike-turn .1)
+        entered c m i (end - i) raw (entryNumbers c e) L (strikeBase K s L) (at s (strike k)) (N .written)
+        (strike-turn .1)
         (ap (entryNumbers c) f ∙ strike-numbers c s k (h .some) (h .columns))
         (sound-wide c (suc s) (h .some) (at s (strike k)) (lt-ltb s (suc s) (omega arith)))
         (strike-splice s L (N .good .fit .sorted) K u
@@ -73,7 +74,8 @@ module _ (c m s : ℕ) (raw K : List ℕ) (N : Known c m raw K) where
         entered c m i k raw (entryNumbers c e) L (changeBase s j (to v) L) (at s (change j (to v))) (N .written) q
         (ap (entryNumbers c) f ∙ change-numbers c s v (a .some) (a .columns) j)
         (sound-wide c (suc s) (a .some) (at s (change j (to v)))
-        (and-of (ltb s (suc s)) (leb 1 j && ltb j c) (lt-ltb s (suc s) (omega arith)) (and-of (leb 1 j) (ltb j c) (le-leb 1 j l) (lt-ltb j c h))))
+        (and-of (ltb s (suc s)) (leb 1 j && ltb j c) (lt-ltb s (suc s) (omega arith))
+        (and-of (leb 1 j) (ltb j c) (le-leb 1 j l) (lt-ltb j c h))))
         g new r w
 
     cell : (E : Entry) → changesCell s j (editOf E) ≡ entryIs s j E
@@ -82,18 +84,21 @@ module _ (c m s : ℕ) (raw K : List ℕ) (N : Known c m raw K) where
     pub on-old : numberIs c m raw i s j ≡ true → i + 1 ≤ m
     on-old t = omega (arith, there c m i s j raw (changesCell s j) cell t)
 
-    pub change-on-old : (t : numberIs c m raw i s j ≡ true) → (new : List ℕ) (r : Answer) (e : Entry) → e ≡ changeEntry s j v
+    pub change-on-old : (t : numberIs c m raw i s j ≡ true) → (new : List ℕ) (r : Answer) (e : Entry)
+        → e ≡ changeEntry s j v
         → Put c m i 1 e raw r new → Entered c m (changeBase s j (to v) L) raw r new
     change-on-old t new r e f w =
         change-put 1 (on-old t) new r e f
-        (change-replaced s j (to v) L (N .good .fit .sorted) i lands (editOf (entryAt c (i * (c + 2)) raw)) (drop (i + 1) L)
+        (change-replaced s j (to v) L (N .good .fit .sorted) i lands (editOf (entryAt c (i * (c + 2)) raw))
+        (drop (i + 1) L)
         (from-entry c m i raw (omega (arith, on-old t))) refl (head-is c m i s j raw (changesCell s j) cell t))
         w
 
     pub off-old : i + 0 ≤ m
     off-old = omega (arith, fits)
 
-    pub change-off-old : (t : numberIs c m raw i s j ≡ false) → (new : List ℕ) (r : Answer) (e : Entry) → e ≡ changeEntry s j v
+    pub change-off-old : (t : numberIs c m raw i s j ≡ false) → (new : List ℕ) (r : Answer) (e : Entry)
+        → e ≡ changeEntry s j v
         → Put c m i 0 e raw r new → Entered c m (changeBase s j (to v) L) raw r new
     change-off-old t new r e f w =
         change-put 0 off-old new r e f

@@ -1,28 +1,26 @@
 -- What is known of a layer once an edit has passed its first four refusals.
 -- Assumes nothing.
-use Prim.Native.Nat.{ℕ, zero, suc, _+_, _-_, _*_, _≤_, _<_}
+use Prim.Native.Nat.{ℕ, _+_, _-_, _*_, _<_}
 use native.Mathlib.Nat.{zero-add}
 use native.Mathlib.Numerals.{add-one}
 use native.Mathlib.Omega.{arith}
-use mathlib.Core.Path.{_≡_, refl, sym, ap, _∙_, subst}
-use mathlib.Core.Bool.{Bool, true, false, _&&_}
-use mathlib.Core.List.{List, [], _∷_, map, List·Memᴰ as Mem}
+use mathlib.Core.Path.{_≡_, refl, sym, ap, _∙_}
+use mathlib.Core.Bool.{Bool, true, false}
+use mathlib.Core.List.{List, [], _∷_, map}
 use lib.ListN.{length, getD, drop, length-drop, length-map, List·getD-map}
 use lib.Dec.{ltb}
 use borrow.Author.Tests.{ltb-true, ltb-false}
 use lib.Seq.{drop-cons}
 use Rattle.order.specs.Lists.{ascending}
 use Rattle.order.proofs.Tests.{and-l, and-r}
-use Rattle.order.proofs.Ascending.{AscFrom, asc-of, At, getD-at}
+use Rattle.order.proofs.Ascending.{AscFrom, asc-of, getD-at}
 use Rattle.model.specs.declared.Entry.{Entry}
 use Rattle.model.specs.Row.{Row, Table, key, keys}
 use Rattle.model.specs.Layer.{Edit, Layer, rowsAfter}
-use Rattle.model.specs.Raw.{Held, none, entryAt, entriesOf, editOf, layerOf}
-use Rattle.model.specs.Form.{inOrder}
-use Rattle.model.specs.Fit.{fits}
+use Rattle.model.specs.Raw.{none, entryAt, entriesOf, editOf, layerOf}
 use Rattle.model.specs.Read.{read}
 use Rattle.model.specs.Position.{back}
-use Rattle.model.proofs.Raw.{entry-at, entries-length, layer-length}
+use Rattle.model.proofs.Raw.{entry-at, layer-length}
 use Rattle.model.proofs.Fit.{Good, good-of}
 use Rattle.model.proofs.Count.{read-length}
 use Rattle.model.proofs.Origin.{Stands, back-row}
@@ -78,12 +76,14 @@ pub stands : (c m : ℕ) (raw K : List ℕ) (r : ℕ) → Known c m raw K → r 
 stands c m raw K r N h =
     let L = layerOf c m raw in
     let T = singles K in
-    let e : length (read T L) ≡ rowsAfter (length K) L = read-length T L (N .good .fit) ∙ ap (λ (n : ℕ). rowsAfter n L) (singles-length K) in
+    let e : length (read T L) ≡ rowsAfter (length K) L = read-length T L (N .good .fit)
+    ∙ ap (λ (n : ℕ). rowsAfter n L) (singles-length K) in
     let w = back-row T L r (getD (read T L) r []) (getD-at (read T L) r [] (omega (arith, e))) in
     rw (singles-length K) at (w .stands)
 
 -- the layer from number i on begins with the edit of entry i
-pub entry-edit : (c m i : ℕ) (raw : List ℕ) → i < m → getD (layerOf c m raw) i (editOf none) ≡ editOf (entryAt c (i * (c + 2)) raw)
+pub entry-edit : (c m i : ℕ) (raw : List ℕ) → i < m → getD (layerOf c m raw) i (editOf none) ≡ editOf
+    (entryAt c (i * (c + 2)) raw)
 unfolding layerOf
 entry-edit c m i raw h =
     List·getD-map editOf (entriesOf c m raw) i none
@@ -109,7 +109,8 @@ module _ (c m i p k : ℕ) (raw : List ℕ) (f : Edit → Bool) (is : (E : Entry
   pub head-is : numberIs c m raw i p k ≡ true → f (editOf E) ≡ true
   head-is t = is E ∙ and-r (ltb i m) (entryIs p k E) t
 
-  pub head-not : numberIs c m raw i p k ≡ false → (x : Edit) (R : Layer) → drop i (layerOf c m raw) ≡ x ∷ R → f x ≡ false
+  pub head-not : numberIs c m raw i p k ≡ false → (x : Edit) (R : Layer) → drop i (layerOf c m raw) ≡ x ∷ R
+      → f x ≡ false
   head-not t x R g = go (ltb i m) refl
     where
       go : (u : Bool) → ltb i m ≡ u → f x ≡ false

@@ -1,17 +1,16 @@
 -- The landing search, one step and the end; and what stands on either side of where an edit lands.
 -- Assumes nothing.
-use Prim.Native.Nat.{ℕ, zero, suc, _+_, _-_, _*_, _≤_, _<_}
+use Prim.Native.Nat.{ℕ, _+_, _-_, _≤_, _<_}
 use native.Mathlib.Nat.{zero-add, sub-zero}
 use native.Mathlib.Numerals.{add-one}
 use native.Mathlib.Omega.{arith}
-use mathlib.Core.Path.{_≡_, refl, sym, ap, _∙_}
+use mathlib.Core.Path.{_≡_, refl, ap}
 use mathlib.Core.Bool.{Bool, true, false, not, cond, _&&_, _||_}
-use mathlib.Core.List.{List, [], _∷_, map, List·Memᴰ as Mem}
-use lib.ListN.{length, getD, take, drop, drop-of-length-le}
+use mathlib.Core.List.{List, [], _∷_, map}
+use lib.ListN.{length, getD, drop, drop-of-length-le}
 use lib.Seq.{drop-cons}
 use lib.Dec.{ltb, eqb}
-use Rattle.order.specs.Lists.{one, count, firstAt}
-use Rattle.order.proofs.Pairs.{AllPairs}
+use Rattle.order.specs.Lists.{one}
 use Rattle.model.specs.declared.Entry.{Entry}
 use Rattle.model.specs.Row.{key}
 use Rattle.model.specs.Cell.{to}
@@ -20,8 +19,7 @@ use Rattle.model.specs.Raw.{ADD, STRIKE, entryAt, entriesAt, editOf, layerOf}
 use Rattle.model.specs.Fit.{keysBelow}
 use Rattle.model.specs.Edits.{deedBefore, before}
 use Rattle.model.proofs.Raw.{edits-step, edits-end}
-use Rattle.model.proofs.Edits.{before-trans}
-use Rattle.edit.specs.Landing.{aim, beforeKind, standsBefore, landing}
+use Rattle.edit.specs.Landing.{aim, standsBefore, landing}
 use Rattle.edit.proofs.Splice.{first-le}
 
 -- the test by numbers is the order of the edits
@@ -42,7 +40,8 @@ kind-before q k v vs false false true y = refl
 kind-before q k v vs false false false true = refl
 kind-before q k v vs false false false false = refl
 
-pub stands-is : (e : Entry) (s k v : ℕ) → standsBefore (e .pos) (e .kind) (getD (e .vals) 0 0) s k v ≡ before (editOf e) (aim s k v)
+pub stands-is : (e : Entry) (s k v : ℕ) → standsBefore (e .pos) (e .kind) (getD (e .vals) 0 0) s k v ≡ before
+    (editOf e) (aim s k v)
 stands-is e s k v =
     ap (λ (t : Bool). ltb (e .pos) s || (eqb (e .pos) s && t))
     (kind-before (e .kind) k v (e .vals) (eqb (e .kind) ADD) (eqb (e .kind) STRIKE) (eqb k ADD) (eqb k STRIKE))
@@ -50,11 +49,13 @@ stands-is e s k v =
 -- The entries from number i of m on, the first of which stands at `from`.
 module _ (c m i from : ℕ) (xs : List ℕ) (e : Edit) where
   pub landing-step : i < m → before (editOf (entryAt c from xs)) e ≡ true
-      → i + landing e (map editOf (entriesAt c (m - i) from xs)) ≡ i + 1 + landing e (map editOf (entriesAt c (m - (i + 1)) (from + (c + 2)) xs))
+      → i + landing e (map editOf (entriesAt c (m - i) from xs)) ≡ i + 1 + landing e
+      (map editOf (entriesAt c (m - (i + 1)) (from + (c + 2)) xs))
   unfolding landing
   landing-step h b = rw (edits-step c m i from xs h, b) (omega arith)
 
-  pub landing-stop : i < m → before (editOf (entryAt c from xs)) e ≡ false → i + landing e (map editOf (entriesAt c (m - i) from xs)) ≡ i
+  pub landing-stop : i < m → before (editOf (entryAt c from xs)) e ≡ false
+      → i + landing e (map editOf (entriesAt c (m - i) from xs)) ≡ i
   unfolding landing
   landing-stop h b = rw (edits-step c m i from xs h, b) (omega arith)
 
@@ -62,7 +63,8 @@ module _ (c m i from : ℕ) (xs : List ℕ) (e : Edit) where
   unfolding landing
   landing-end h = rw (edits-end c m i from xs h) (omega arith)
 
-pub begin : (c m : ℕ) (xs : List ℕ) (e : Edit) → landing e (layerOf c m xs) ≡ 0 + landing e (map editOf (entriesAt c (m - 0) 0 xs))
+pub begin : (c m : ℕ) (xs : List ℕ) (e : Edit) → landing e (layerOf c m xs) ≡ 0 + landing e
+    (map editOf (entriesAt c (m - 0) 0 xs))
 unfolding layerOf
 begin c m xs e = rw (sub-zero, zero-add)
 
@@ -72,7 +74,8 @@ landing-le e L = first-le before e L
 
 -- The keys from number i on.
 module _ (k : ℕ) (keys : List ℕ) (i : ℕ) where
-  pub below-step : i < length keys → keysBelow k (drop i keys) ≡ one (ltb (getD keys i 0) k) + keysBelow k (drop (i + 1) keys)
+  pub below-step : i < length keys → keysBelow k (drop i keys) ≡ one (ltb (getD keys i 0) k) + keysBelow k
+      (drop (i + 1) keys)
   below-step h = rw (add-one, drop-cons keys i 0)
 
   pub below-end : length keys ≤ i → keysBelow k (drop i keys) ≡ 0

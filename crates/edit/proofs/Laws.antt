@@ -1,23 +1,27 @@
--- The promises of the edits: an accepted call leaves a layer that keeps form and fits, so that the next call meets no refusal 2 or 4;
--- reading every column through it is the edited table; a run of calls from an empty layer is those edits done one after the other by key.
+-- The promises of the edits: an accepted call leaves a layer that keeps form and fits, so that the next call meets no
+-- refusal 2 or 4;
+-- reading every column through it is the edited table; a run of calls from an empty layer is those edits done one after
+-- the other by key.
 -- Assumes nothing.
-use Prim.Native.Nat.{ℕ, suc, _+_, _-_, _*_, _≤_, _<_, max}
+use Prim.Native.Nat.{ℕ, _+_, _-_, _*_, _≤_, _<_, max}
 use native.Mathlib.Omega.{arith}
 use mathlib.Core.Path.{_≡_, refl, sym, ap, _∙_}
-use mathlib.Core.Bool.{Bool, true, false, _&&_, _||_}
-use mathlib.Core.List.{List, [], _∷_, _++_, map, List·Memᴰ as Mem, List·Memᴰ·not-nil as not-nil}
+use mathlib.Core.Bool.{true, _&&_}
+use mathlib.Core.List.{List, [], _∷_, _++_, map, List·Memᴰ·not-nil as not-nil}
 use lib.ListN.{length, drop, replicate, length-append}
-use lib.Dec.{leb, ltb, eqb}
+use lib.Dec.{leb}
 use borrow.Author.Tests.{le-leb, le-ltb, eqb-true}
-use Rattle.order.specs.Lists.{inTurn, ascending, leastBroken}
+use Rattle.order.specs.Lists.{inTurn}
 use Rattle.order.proofs.Tests.{and-of}
 use Rattle.order.proofs.Members.{mem-map}
 use Rattle.order.proofs.Pairs.{AllPairs, pairs-weaker, of-unbroken}
-use Rattle.order.proofs.Ascending.{AscFrom, of-asc}
+use Rattle.order.proofs.Ascending.{of-asc}
 use Rattle.model.specs.declared.Entry.{Entry}
-use Rattle.model.specs.declared.Answer.the-variants.{Done}
+use Rattle.model.specs.declared.Refusal.{Refusal}
+use Rattle.model.specs.declared.Answer.{Answer}
+use Rattle.model.specs.declared.Answer.the-variants.{Done, Refused}
 use Rattle.model.specs.Row.{Table, key, keys, column}
-use Rattle.model.specs.Layer.{Edit, Layer, rowsAfter}
+use Rattle.model.specs.Layer.{Layer, rowsAfter}
 use Rattle.model.specs.Raw.{editOf, entriesAt, entriesOf, layerOf, flat}
 use Rattle.model.specs.Form.{zeros, sound, follows, formPlace, keepsForm, inOrder, argsOk}
 use Rattle.model.specs.Fit.{fits, fitPlace}
@@ -25,10 +29,10 @@ use Rattle.model.specs.Read.{read}
 use Rattle.model.specs.Refusals.{breaksForm}
 use Rattle.model.specs.Edits.{before}
 use Rattle.model.specs.Steps.{Step, stepOn, stepBy}
-use Rattle.model.specs.Calls.{formAnswer, fitAnswer, shownColumn}
+use Rattle.model.specs.Calls.{formAnswer, fitAnswer, shownColumn, edited}
 use Rattle.model.proofs.Raw.{entries-length, layer-length}
 use Rattle.model.proofs.Edits.{before-follows}
-use Rattle.model.proofs.Fit.{Good, good-form, good-fits, keys-length}
+use Rattle.model.proofs.Fit.{good-form, good-fits, keys-length}
 use Rattle.model.proofs.Column.{Wide, column-read}
 use Rattle.model.proofs.Edited.{Reads}
 use Rattle.model.proofs.Steps.{empty-good, empty-reads, step-reads}
@@ -36,8 +40,20 @@ use Rattle.form.proofs.Answers.{fit-accepted}
 use Rattle.write.proofs.Laws.{in-room}
 use Rattle.write.proofs.Layers.{sound-wide, flat-length}
 use Rattle.write.proofs.Readback.{read-back, zeros-back}
-use Rattle.edit.specs.Runs.{stepAnswer, stepSlice, Ran, still, first}
+use Rattle.edit.specs.Runs.{stepAnswer, Outcome, stepSlice, Ran, still, first}
 use Rattle.edit.proofs.Accepting.{Accepts, accepts}
+
+-- an outcome is an accepted step, or leaves the slice as it was
+pub accepted-outcome : (c m : ℕ) (raw K : List ℕ) (x : Step) (r : Answer) (new : List ℕ) (k : ℕ)
+    → Outcome c m raw K x r new
+    → r ≡ Done k → (stepAnswer c m raw K x ≡ Done k) × (new ≡ stepSlice c m raw K x k)
+accepted-outcome c m raw K x r new k o e =
+    (sym (o .0) ∙ e, o .1 ∙ ap (λ (t : Answer). edited c m t (stepOn K x (layerOf c m raw)) raw) e)
+
+pub refused-outcome : (c m : ℕ) (raw K : List ℕ) (x : Step) (r : Answer) (new : List ℕ) (y : Refusal)
+    → Outcome c m raw K x r new
+    → r ≡ Refused y → new ≡ raw
+refused-outcome c m raw K x r new y o e = o .1 ∙ ap (λ (t : Answer). edited c m t (stepOn K x (layerOf c m raw)) raw) e
 
 pairs-unmap : (xs : List Entry) → AllPairs follows (map editOf xs) → AllPairs (λ d e. follows (editOf d) (editOf e)) xs
 pairs-unmap [] p = tt
@@ -69,12 +85,14 @@ module _ (c m : ℕ) (raw : List ℕ) (T : Table) (x : Step) (k : ℕ) (h : step
   -- the slice holds the new layer
   pub edit-layer : layerOf c k after ≡ M
   unfolding behind
-  edit-layer = read-back c (length T) (A .form .held .some) (A .form .held .columns) k M behind (A .size) (R .good .each)
+  edit-layer = read-back c (length T) (A .form .held .some) (A .form .held .columns) k M behind (A .size)
+      (R .good .each)
 
   -- it keeps form and fits
   pub edit-keeps-form : keepsForm c (length T) (layerOf c k after) ≡ true
   edit-keeps-form =
-      rw edit-layer (and-of (inOrder c (length T) M) (leb (rowsAfter (length T) M) 4096) (good-form c T M (A .rising) (R .good))
+      rw edit-layer (and-of (inOrder c (length T) M) (leb (rowsAfter (length T) M) 4096)
+      (good-form c T M (A .rising) (R .good))
       (le-leb (rowsAfter (length T) M) 4096 (A .rows)))
 
   pub edit-fits : fits K (layerOf c k after) ≡ true
@@ -84,27 +102,37 @@ module _ (c m : ℕ) (raw : List ℕ) (T : Table) (x : Step) (k : ℕ) (h : step
   inside : (k ≤ 512) × (k * (c + 2) ≤ length after)
   unfolding behind
   inside =
-      let w = in-room c (length raw) k (A .room) in
-      (w .0, omega (arith, length-append (flat c M) behind, ap (λ (n : ℕ). n * (c + 2)) (A .size),
-        flat-length c M (λ e n. sound-wide c (length T) (A .form .held .some) e (R .good .each e n))))
+      let w = in-room c (length raw) k (A .room) in (
+        w .0,
+        omega (
+          arith,
+          length-append (flat c M) behind,
+          ap (λ (n : ℕ). n * (c + 2)) (A .size),
+          flat-length c M (λ e n. sound-wide c (length T) (A .form .held .some) e (R .good .each e n)),
+        ),
+      )
 
   args : argsOk c (length T) k (length after) ≡ true
   unfolding argsOk
   args =
       and-of (leb 1 c) _ (le-leb 1 c (A .form .held .some)) (and-of (leb c 8) _ (le-leb c 8 (A .form .held .columns))
       (and-of (leb (length T) 4096) _ (le-leb (length T) 4096 (A .form .base))
-      (and-of (leb k 512) (leb (k * (c + 2)) (length after)) (le-leb k 512 (inside .0)) (le-leb (k * (c + 2)) (length after) (inside .1)))))
+      (and-of (leb k 512) (leb (k * (c + 2)) (length after)) (le-leb k 512 (inside .0))
+      (le-leb (k * (c + 2)) (length after) (inside .1)))))
 
   none-at-fault : formPlace c (length T) (entriesOf c k after) ≡ k
   unfolding formPlace behind layerOf
   none-at-fault =
-      of-unbroken (λ e. zeros e && sound c (length T) (editOf e)) (λ d e. follows (editOf d) (editOf e)) [] (entriesOf c k after) (record {
+      of-unbroken (λ e. zeros e && sound c (length T) (editOf e)) (λ d e. follows (editOf d) (editOf e)) []
+      (entriesOf c k after) (record {
         each = λ e n.
             and-of (zeros e) (sound c (length T) (editOf e))
-            (zeros-back c (length T) (A .form .held .some) (A .form .held .columns) k M behind (A .size) (R .good .each) e n)
+            (zeros-back c (length T) (A .form .held .some) (A .form .held .columns) k M behind (A .size)
+            (R .good .each) e n)
             (R .good .each (editOf e) (rw edit-layer at (mem-map editOf (entriesOf c k after) e n)));
         past = λ y z n l. absurd (not-nil n);
-        pairs = pairs-unmap (entriesOf c k after) (rw edit-layer (pairs-weaker before follows M (λ d e n l g. before-follows d e g) (R .good .fit .sorted)));
+        pairs = pairs-unmap (entriesOf c k after)
+            (rw edit-layer (pairs-weaker before follows M (λ d e n l g. before-follows d e g) (R .good .fit .sorted)));
       })
       ∙ entries-length c k 0 after
 
@@ -116,8 +144,13 @@ module _ (c m : ℕ) (raw : List ℕ) (T : Table) (x : Step) (k : ℕ) (h : step
   pub edit-next : fitAnswer c k after K ≡ Done 0
   unfolding fits
   edit-next =
-      sym (fit-accepted c k after K (rowsAfter (length T) M) (rw (keys-length T) edit-next-form) (of-asc key T (A .rising))
-      (omega (arith, eqb-true (fitPlace K (layerOf c k after)) (length (layerOf c k after)) edit-fits, layer-length c k after)))
+      sym (fit-accepted c k after K (rowsAfter (length T) M) (rw (keys-length T) edit-next-form)
+      (of-asc key T (A .rising))
+      (omega (
+        arith,
+        eqb-true (fitPlace K (layerOf c k after)) (length (layerOf c k after)) edit-fits,
+        layer-length c k after,
+      )))
 
   -- what is read through it is the edited table, and so is every column of it
   pub edit-reads : read T (layerOf c k after) ≡ stepBy x (read T L)
@@ -148,4 +181,5 @@ module _ (c : ℕ) (T : Table) where
 
   pub run-columns : (xs : List Step) (raw : List ℕ) (n : ℕ) (end : List ℕ) → Ran c (keys T) xs 0 raw n end
       → Wide c T → (j : ℕ) → j < c → shownColumn c n end (column j T) j ≡ column j (inTurn stepBy xs T)
-  run-columns xs raw n end r w j l = sym (column-read c j T (layerOf c n end) w l) ∙ ap (column j) (run-reads xs raw n end r)
+  run-columns xs raw n end r w j l = sym (column-read c j T (layerOf c n end) w l)
+      ∙ ap (column j) (run-reads xs raw n end r)

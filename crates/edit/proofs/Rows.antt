@@ -1,12 +1,12 @@
 -- An edit of a row number: of the base row or of the added entry that stands behind it.
 -- Assumes nothing.
-use Prim.Native.Nat.{ℕ, suc, _+_, _-_, _*_, _≤_, _<_}
+use Prim.Native.Nat.{ℕ, _+_, _-_, _*_, _≤_, _<_}
 use native.Mathlib.Omega.{arith}
-use mathlib.Core.Path.{_≡_, refl, sym, ap, _∙_, subst}
-use mathlib.Core.Bool.{Bool, true, false, _&&_}
-use mathlib.Core.List.{List, [], _∷_, _++_, List·Memᴰ·not-nil as not-nil}
-use lib.ListN.{length, take, drop, set}
-use lib.Dec.{ltb, leb, eqb}
+use mathlib.Core.Path.{_≡_, sym, ap, _∙_, subst}
+use mathlib.Core.Bool.{false}
+use mathlib.Core.List.{List, [], List·Memᴰ·not-nil as not-nil}
+use lib.ListN.{length, set}
+use lib.Dec.{leb, eqb}
 use borrow.Author.Tests.{le-ltb, eqb-true}
 use Rattle.order.specs.Lists.{without}
 use Rattle.order.proofs.Tests.{and-r}
@@ -14,15 +14,13 @@ use Rattle.order.proofs.Ascending.{At, at-mem, at-length}
 use Rattle.model.specs.declared.Refusal.{Refusal}
 use Rattle.model.specs.declared.Answer.{Answer}
 use Rattle.model.specs.declared.Answer.the-variants.{Done, Refused}
-use Rattle.model.specs.declared.Back.{Back}
 use Rattle.model.specs.declared.Back.the-variants as backed
 use Rattle.model.specs.Row.{Row}
 use Rattle.model.specs.Cell.{to}
-use Rattle.model.specs.Layer.{add, Edit, at, Layer, rowsAfter, struck}
+use Rattle.model.specs.Layer.{add, at, Layer, rowsAfter, struck}
 use Rattle.model.specs.Raw.{layerOf, flat, room}
-use Rattle.model.specs.Form.{sound}
 use Rattle.model.specs.Position.{Origin, base, added, back}
-use Rattle.model.specs.Edits.{strikeBase, strikeOrigin, strikeRow, changeBase, changeAdded, changeOrigin, changeRowNo}
+use Rattle.model.specs.Edits.{strikeBase, strikeRow, changeBase, changeRowNo}
 use Rattle.model.specs.Calls.{originAnswer, edited}
 use Rattle.model.proofs.Origin.{Stands}
 use Rattle.write.specs.Replaced.{replaced}
@@ -62,7 +60,8 @@ module _ (c m : ℕ) (raw K : List ℕ) (r : ℕ) (N : Known c m raw K) (h : r <
     pub base-stands : (s < length K) × (struck s L ≡ false)
     base-stands = subst (Stands (length K) L) is-base (stands c m raw K r N h)
 
-    pub strike-of-base : (x : Answer) (new : List ℕ) → Entered c m (strikeBase K s L) raw x new → Entered c m (strikeRow K r L) raw x new
+    pub strike-of-base : (x : Answer) (new : List ℕ) → Entered c m (strikeBase K s L) raw x new
+        → Entered c m (strikeRow K r L) raw x new
     unfolding strikeRow
     strike-of-base x new w = rw is-base w
 
@@ -82,12 +81,14 @@ module _ (c m : ℕ) (raw K : List ℕ) (r : ℕ) (N : Known c m raw K) (h : r <
     pub added-below : i < m
     added-below = omega (arith, at-length (entry .2), N .written .size)
 
-    pub strike-of-added : (new : List ℕ) → new ≡ replaced c m i 1 [] raw → Entered c m (strikeRow K r L) raw (Done (m - 1)) new
+    pub strike-of-added : (new : List ℕ) → new ≡ replaced c m i 1 [] raw
+        → Entered c m (strikeRow K r L) raw (Done (m - 1)) new
     unfolding strikeRow flat
     strike-of-added new w = rw is-added (record {
       answer = fewer (m - 1) (omega arith) ∙ ap (countAnswer c (length raw)) size;
       slice =
-          w ∙ (replaced-edited c m raw L (N .written) i 1 (omega (arith, added-below)) [] (λ d k. absurd (not-nil k)) (m - 1)
+          w ∙ (replaced-edited c m raw L (N .written) i 1 (omega (arith, added-below)) [] (λ d k. absurd (not-nil k))
+          (m - 1)
           ∙ ap (λ (M : Layer). edited c m (Done (m - 1)) M raw) (sym (without-at i L)));
     })
       where
@@ -110,4 +111,5 @@ module _ (c m : ℕ) (raw K : List ℕ) (r : ℕ) (N : Known c m raw K) (h : r <
         wide : length (entry .1) ≡ c
         wide =
             eqb-true (length (entry .1)) c
-            (and-r (leb (entry .0) (length K)) (eqb (length (entry .1)) c) (N .acc .each (at (entry .0) (add (entry .1))) (at-mem (entry .2))))
+            (and-r (leb (entry .0) (length K)) (eqb (length (entry .1)) c)
+            (N .acc .each (at (entry .0) (add (entry .1))) (at-mem (entry .2))))

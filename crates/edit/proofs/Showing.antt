@@ -1,35 +1,34 @@
--- Whether a key is shown, from what stands where its add would land: an add of that key, the base row of that key, or its strike.
+-- Whether a key is shown, from what stands where its add would land: an add of that key, the base row of that key, or
+-- its strike.
 -- Assumes nothing.
-use Prim.Native.Nat.{ℕ, zero, suc, _+_, _-_, _*_, _≤_, _<_}
+use Prim.Native.Nat.{ℕ, _+_, _-_, _*_, _≤_, _<_}
 use native.Mathlib.Omega.{arith}
 use mathlib.Core.Path.{_≡_, refl, sym, ap, _∙_, subst}
 use mathlib.Core.Logic.{_⊎_, inl, inr, ⊎-elim}
-use mathlib.Core.Bool.{Bool, true, false, not, cond, _&&_, _||_, true≢false, and-true, and-false}
+use mathlib.Core.Bool.{Bool, true, false, not, cond, _&&_, true≢false, and-true, and-false}
 use mathlib.Core.List.{
   List,
   [],
   _∷_,
-  _++_,
   List·Memᴰ as Mem,
   List·Memᴰ·head as here,
-  List·Memᴰ·tail as next,
   List·Memᴰ·not-nil as not-nil,
   List·Memᴰ·cases-cons as cases-cons,
   List·Memᴰ·append-cases as append-cases,
 }
 use lib.ListN.{length, getD, take, drop, take-append-drop}
-use lib.Dec.{ltb, leb, eqb}
-use borrow.Author.Tests.{eqb-true, eq-eqb, ne-eqb, ltb-true, lt-ltb, not-true, ltb-false}
-use Rattle.order.specs.Lists.{count, any}
-use Rattle.order.proofs.Tests.{tests, and-l, and-r, and-of, same-test, not-passed, eqb-sym}
+use lib.Dec.{ltb, eqb}
+use borrow.Author.Tests.{eqb-true, eq-eqb, ltb-true, not-true, ltb-false}
+use Rattle.order.specs.Lists.{count}
+use Rattle.order.proofs.Tests.{and-l, and-r, and-of, same-test, not-passed}
 use Rattle.order.proofs.Members.{any-mem, any-of, map-mem, mem-map}
 use Rattle.order.proofs.Counts.{count-le}
 use Rattle.order.proofs.Pairs.{AllPairs}
-use Rattle.order.proofs.Ascending.{AscFrom, At, below, at-mem, at-count, at-length, getD-at, count-strict}
+use Rattle.order.proofs.Ascending.{At, below, at-mem, at-count, at-length, getD-at, count-strict}
 use Rattle.model.specs.declared.Entry.{Entry}
 use Rattle.model.specs.Row.{Row, Table, key, keys}
 use Rattle.model.specs.Cell.{to}
-use Rattle.model.specs.Layer.{Deed, add, strike, change, Edit, at, Layer, position, struck, strikesRow, changed}
+use Rattle.model.specs.Layer.{Deed, add, strike, change, Edit, at, Layer, struck, changed}
 use Rattle.model.specs.Raw.{ADD, STRIKE, entryAt, deedOf, editOf, layerOf}
 use Rattle.model.specs.Fit.{keysBelow}
 use Rattle.model.specs.Read.{read, keysAfter}
@@ -38,12 +37,22 @@ use Rattle.model.specs.Edits.{deedBefore, before}
 use Rattle.model.proofs.Edits.{before-cases, before-lt, before-eq, before-trans, before-asym}
 use Rattle.model.proofs.Layer.{struck-of, of-struck, changed-key}
 use Rattle.model.proofs.Read.{Shown, shown, shows-row, shows-add}
-use Rattle.model.proofs.Fit.{Fit, Good, key-kept, key-of, below-keys}
+use Rattle.model.proofs.Fit.{Fit, key-kept, key-of, below-keys}
 use Rattle.model.proofs.Column.{keys-read}
 use Rattle.edit.specs.Landing.{aim, landing}
 use Rattle.edit.specs.Ready.{entryIs, numberIs}
 use Rattle.edit.proofs.Splice.{front, rest, drop-mem, pairs-drop}
-use Rattle.edit.proofs.Known.{singles, keys-singles, singles-length, Known, from-entry, cons-head, there, head-is, head-not}
+use Rattle.edit.proofs.Known.{
+  singles,
+  keys-singles,
+  singles-length,
+  Known,
+  from-entry,
+  cons-head,
+  there,
+  head-is,
+  head-not,
+}
 
 -- an add at p
 abbrev pub addAt : ℕ → Edit → Bool
@@ -61,7 +70,9 @@ module _ (E : Entry) (p : ℕ) where
   pub add-is : addAt p (editOf E) ≡ entryIs p ADD E
   add-is = by (eqb (E .kind) ADD) (eqb (E .kind) STRIKE)
     where
-      by : (a b : Bool) → addAt p (at (E .pos) (cond a (add (E .vals)) (cond b (strike (getD (E .vals) 0 0)) (change (E .kind) (to (getD (E .vals) 0 0))))))
+      by : (a b : Bool) → addAt p
+          (at (E .pos) (cond a (add (E .vals))
+          (cond b (strike (getD (E .vals) 0 0)) (change (E .kind) (to (getD (E .vals) 0 0))))))
           ≡ (eqb (E .pos) p && a)
       by true b = sym (and-true (eqb (E .pos) p))
       by false true = sym (and-false (eqb (E .pos) p))
@@ -71,7 +82,9 @@ module _ (E : Entry) (p : ℕ) where
   strike-is = by (eqb (E .kind) ADD) refl (eqb (E .kind) STRIKE) refl
     where
       by : (a : Bool) → eqb (E .kind) ADD ≡ a → (b : Bool) → eqb (E .kind) STRIKE ≡ b
-          → strikeAt p (at (E .pos) (cond a (add (E .vals)) (cond b (strike (getD (E .vals) 0 0)) (change (E .kind) (to (getD (E .vals) 0 0))))))
+          → strikeAt p (at (E .pos)
+          (cond a (add (E .vals))
+          (cond b (strike (getD (E .vals) 0 0)) (change (E .kind) (to (getD (E .vals) 0 0))))))
           ≡ (eqb (E .pos) p && b)
       by true e true f = absurd (omega (arith, eqb-true (E .kind) ADD e, eqb-true (E .kind) STRIKE f))
       by true e false f = sym (and-false (eqb (E .pos) p))
@@ -116,14 +129,20 @@ module _ (c m : ℕ) (raw K : List ℕ) (N : Known c m raw K) (k : ℕ) where
       (v .0, shown 0 T L (v .0) (v .1), sym (eqb-true k (w .0) (w .2) ∙ v .2))
 
   shown-of-row : (q : Row) → Mem q (read T L) → key q ≡ k → shownKey k (keysAfter K L) ≡ true
-  shown-of-row q n e = rw shown-keys (any-of (eqb k) (keys (read T L)) (key q) (mem-map key (read T L) q n) (eq-eqb k (key q) (sym e)))
+  shown-of-row q n e = rw shown-keys
+      (any-of (eqb k) (keys (read T L)) (key q) (mem-map key (read T L) q n) (eq-eqb k (key q) (sym e)))
 
   -- an add of key k, and the base row of key k, stand at p
   add-stands : (s : ℕ) (q : Row) → Mem (at s (add q)) L → key q ≡ k → s ≡ p
   add-stands s q n e = sym (F .sits s q n) ∙ (ap (λ (l : ℕ). count (below key l) T) e ∙ below-p)
 
   row-stands : (t : ℕ) (q : Row) → At q t 0 T → key q ≡ k → t ≡ p
-  row-stands t q n e = omega (arith, at-count key 0 0 T (N .rising) q t n, ap (λ (l : ℕ). count (below key l) T) e, below-p)
+  row-stands t q n e = omega (
+    arith,
+    at-count key 0 0 T (N .rising) q t n,
+    ap (λ (l : ℕ). count (below key l) T) e,
+    below-p,
+  )
 
   -- i is where an add of key k would land
   module _ (i : ℕ) (lands : i ≡ landing (aim p ADD k) L) where
@@ -138,7 +157,8 @@ module _ (c m : ℕ) (raw K : List ℕ) (N : Known c m raw K) (k : ℕ) where
         ⊎-elim (λ g. absurd (true≢false (sym (front before (aim p ADD k) L y (rw lands at g)) ∙ f))) (λ g. g)
         (append-cases (take i L) (rw (take-append-drop i L) n))
 
-    first-or : (y : Edit) → Mem y (drop i L) → (x : Edit) × (R : Layer) × (drop i L ≡ x ∷ R) × ((y ≡ x) ⊎ (before x y ≡ true))
+    first-or : (y : Edit) → Mem y (drop i L) → (x : Edit) × (R : Layer) × (drop i L ≡ x ∷ R)
+        × ((y ≡ x) ⊎ (before x y ≡ true))
     first-or y n = go (drop i L) refl (pairs-drop before i L (F .sorted)) n
       where
         go : (Y : Layer) → drop i L ≡ Y → AllPairs before Y → Mem y Y
@@ -156,14 +176,16 @@ module _ (c m : ℕ) (raw K : List ℕ) (N : Known c m raw K) (k : ℕ) where
         behind y n (sym (same-aim s q (add-stands s q n f) f y) ∙ not-passed (before y y) (λ g. before-asym y y g g))
 
     -- and so it is the first
-    is-first : (s : ℕ) (q : Row) → Mem (at s (add q)) L → key q ≡ k → (x : Edit) × (R : Layer) × (drop i L ≡ x ∷ R) × (at s (add q) ≡ x)
+    is-first : (s : ℕ) (q : Row) → Mem (at s (add q)) L → key q ≡ k → (x : Edit) × (R : Layer) × (drop i L ≡ x ∷ R)
+        × (at s (add q) ≡ x)
     is-first s q n f =
         let w = first-or (at s (add q)) (in-rest s q n f) in (
           w .0,
           w .1,
           w .2,
           ⊎-elim (λ g. g)
-              (λ g. absurd (true≢false (sym (sym (same-aim s q (add-stands s q n f) f (w .0)) ∙ g) ∙ later (w .0) (rw (w .2) (here refl)))))
+              (λ g. absurd (true≢false (sym (sym (same-aim s q (add-stands s q n f) f (w .0)) ∙ g)
+              ∙ later (w .0) (rw (w .2) (here refl)))))
               (w .3),
         )
 
@@ -184,7 +206,8 @@ module _ (c m : ℕ) (raw K : List ℕ) (N : Known c m raw K) (k : ℕ) where
 
         there : eqb (key vs) k ≡ true → shownKey k (keysAfter K L) ≡ true
         there h =
-            shown-of-row vs (shows-add 0 T L p vs (drop-mem i L (at p (add vs)) inside) (omega arith) (omega (arith, below-p, count-le (below key k) T)))
+            shown-of-row vs (shows-add 0 T L p vs (drop-mem i L (at p (add vs)) inside) (omega arith)
+            (omega (arith, below-p, count-le (below key k) T)))
             (eqb-true (key vs) k h)
 
         -- its key is not below k
@@ -193,7 +216,8 @@ module _ (c m : ℕ) (raw K : List ℕ) (N : Known c m raw K) (k : ℕ) where
           where
             go : (t : Bool) → ltb (key vs) k ≡ t → k ≤ key vs
             go true h =
-                absurd (true≢false (sym (before-eq p p (add vs) (add (k ∷ [])) refl (key-one vs k ∙ h)) ∙ later (at p (add vs)) inside))
+                absurd (true≢false (sym (before-eq p p (add vs) (add (k ∷ [])) refl (key-one vs k ∙ h))
+                ∙ later (at p (add vs)) inside))
             go false h = ltb-false (key vs) k h
 
         found : shownKey k (keysAfter K L) ≡ true → eqb (key vs) k ≡ true
@@ -209,7 +233,8 @@ module _ (c m : ℕ) (raw K : List ℕ) (N : Known c m raw K) (k : ℕ) where
                 rowOf (at s (strike l)) = []
                 rowOf (at s (change j g)) = []
             by q (inr a) f =
-                let g : key (a .1) ≡ k = sym (changed-key (a .0) L (a .1) (key-kept T L F)) ∙ (ap key (sym (a .4)) ∙ f) in
+                let g : key (a .1) ≡ k = sym (changed-key (a .0) L (a .1) (key-kept T L F))
+                ∙ (ap key (sym (a .4)) ∙ f) in
                 eq-eqb (key vs) k (go (ltb k (key vs)) refl g)
               where
                 go : (t : Bool) → ltb k (key vs) ≡ t → key (a .1) ≡ k → key vs ≡ k
@@ -251,9 +276,12 @@ module _ (c m : ℕ) (raw K : List ℕ) (N : Known c m raw K) (k : ℕ) where
 
           there : eqb (getD K p 0) k && not (struck p L) ≡ true → shownKey k (keysAfter K L) ≡ true
           there h =
-              shown-of-row (changed p L (getD T p [])) (shows-row 0 T L p (getD T p []) stands (not-true (struck p L) (and-r (eqb (getD K p 0) k) (not (struck p L)) h)))
+              shown-of-row (changed p L (getD T p []))
+              (shows-row 0 T L p (getD T p []) stands
+              (not-true (struck p L) (and-r (eqb (getD K p 0) k) (not (struck p L)) h)))
               (changed-key p L (getD T p []) (key-kept T L F)
-              ∙ (sym (ap (λ (l : List ℕ). getD l p 0) (sym (keys-singles K)) ∙ key-of stands) ∙ eqb-true (getD K p 0) k (and-l (eqb (getD K p 0) k) (not (struck p L)) h)))
+              ∙ (sym (ap (λ (l : List ℕ). getD l p 0) (sym (keys-singles K)) ∙ key-of stands)
+              ∙ eqb-true (getD K p 0) k (and-l (eqb (getD K p 0) k) (not (struck p L)) h)))
 
           found : shownKey k (keysAfter K L) ≡ true → eqb (getD K p 0) k && not (struck p L) ≡ true
           found h =
@@ -273,7 +301,8 @@ module _ (c m : ℕ) (raw K : List ℕ) (N : Known c m raw K) (k : ℕ) where
           comes : (l : ℕ) → before (at p (strike l)) (aim p ADD k) ≡ false
           comes l =
               not-passed (before (at p (strike l)) (aim p ADD k))
-              (λ h. ⊎-elim (λ g. omega arith) (λ g. true≢false (sym (g .1))) (before-cases p p (strike l) (add (k ∷ [])) h))
+              (λ h. ⊎-elim (λ g. omega arith) (λ g. true≢false (sym (g .1)))
+              (before-cases p p (strike l) (add (k ∷ [])) h))
 
           before-strike : (x : Edit) (R : Layer) → drop i L ≡ x ∷ R → (l : ℕ) → before x (at p (strike l)) ≡ true → ⊥
           before-strike (at t d) R e l h =
@@ -291,7 +320,8 @@ module _ (c m : ℕ) (raw K : List ℕ) (N : Known c m raw K) (k : ℕ) where
               ⊎-elim (λ g. true≢false (sym (eq-eqb p p refl) ∙ (ap (strikeAt p) g ∙ not-first (w .0) (w .1) (w .2))))
               (λ g. before-strike (w .0) (w .1) (w .2) l g) (w .3)
 
-      pub shown-row : p < length K → (s : Bool) → struck p L ≡ s → eqb (getD K p 0) k && not s ≡ shownKey k (keysAfter K L)
+      pub shown-row : p < length K → (s : Bool) → struck p L ≡ s → eqb (getD K p 0) k && not s ≡ shownKey k
+          (keysAfter K L)
       shown-row l s e = ap (λ (t : Bool). eqb (getD K p 0) k && not t) (sym e) ∙ shown-base l
 
 key-is : (vs : Row) → getD vs 0 0 ≡ key vs
@@ -316,30 +346,36 @@ module _ (c m : ℕ) (raw K : List ℕ) (N : Known c m raw K) (k : ℕ) where
   pub by-add : (p i : ℕ) → p ≡ keysBelow k K → Lands p i → numberIs c m raw i p ADD ≡ true
       → eqb (getD (entryAt c (i * (c + 2)) raw .vals) 0 0) k ≡ shownThere
   by-add p i e =
-      subst (λ (q : ℕ). Lands q i → numberIs c m raw i q ADD ≡ true → eqb (getD (entryAt c (i * (c + 2)) raw .vals) 0 0) k ≡ shownThere) (sym e)
+      subst (λ (q : ℕ). Lands q i → numberIs c m raw i q ADD ≡ true
+      → eqb (getD (entryAt c (i * (c + 2)) raw .vals) 0 0) k ≡ shownThere) (sym e)
       (λ l t.
       let E = entryAt c (i * (c + 2)) raw in
       let q = keysBelow k K in
       let h = there c m i q ADD raw (addAt q) (λ D. add-is D q) t in
       ap (λ (v : ℕ). eqb v k) (key-is (E .vals))
       ∙ shown-add c m raw K N k i l (E .vals) (drop (i + 1) (layerOf c m raw))
-      (from-entry c m i raw h ∙ ap (λ (d : Edit). d ∷ drop (i + 1) (layerOf c m raw)) (add-edit E q (and-r (ltb i m) (entryIs q ADD E) t))))
+      (from-entry c m i raw h ∙ ap (λ (d : Edit). d ∷ drop (i + 1) (layerOf c m raw))
+      (add-edit E q (and-r (ltb i m) (entryIs q ADD E) t))))
 
-  pub by-none : (p i : ℕ) → p ≡ keysBelow k K → Lands p i → numberIs c m raw i p ADD ≡ false → length K ≤ p → false ≡ shownThere
+  pub by-none : (p i : ℕ) → p ≡ keysBelow k K → Lands p i → numberIs c m raw i p ADD ≡ false → length K ≤ p
+      → false ≡ shownThere
   by-none p i e =
       subst (λ (q : ℕ). Lands q i → numberIs c m raw i q ADD ≡ false → length K ≤ q → false ≡ shownThere) (sym e)
       (λ l t h.
       let q = keysBelow k K in
       past-keys c m raw K N k i l (head-not c m i q ADD raw (addAt q) (λ D. add-is D q) t) h)
 
-  pub by-row : (p i : ℕ) → p ≡ keysBelow k K → Lands p i → numberIs c m raw i p ADD ≡ false → p < length K → (s : Bool) → s ≡ numberIs c m raw i p STRIKE
+  pub by-row : (p i : ℕ) → p ≡ keysBelow k K → Lands p i → numberIs c m raw i p ADD ≡ false → p < length K
+      → (s : Bool) → s ≡ numberIs c m raw i p STRIKE
       → eqb (getD K p 0) k && not s ≡ shownThere
   by-row p i e =
-      subst (λ (q : ℕ). Lands q i → numberIs c m raw i q ADD ≡ false → q < length K → (s : Bool) → s ≡ numberIs c m raw i q STRIKE
+      subst (λ (q : ℕ). Lands q i → numberIs c m raw i q ADD ≡ false → q < length K → (s : Bool)
+      → s ≡ numberIs c m raw i q STRIKE
       → eqb (getD K q 0) k && not s ≡ shownThere) (sym e) direct
     where
       direct : Lands (keysBelow k K) i → numberIs c m raw i (keysBelow k K) ADD ≡ false → keysBelow k K < length K
-          → (s : Bool) → s ≡ numberIs c m raw i (keysBelow k K) STRIKE → eqb (getD K (keysBelow k K) 0) k && not s ≡ shownThere
+          → (s : Bool) → s ≡ numberIs c m raw i (keysBelow k K) STRIKE
+          → eqb (getD K (keysBelow k K) 0) k && not s ≡ shownThere
       direct l t h s f = shown-row c m raw K N k i l none h s (sym (by s f))
         where
           none : (x : Edit) (R : Layer) → drop i (layerOf c m raw) ≡ x ∷ R → addAt (keysBelow k K) x ≡ false
@@ -348,10 +384,13 @@ module _ (c m : ℕ) (raw K : List ℕ) (N : Known c m raw K) (k : ℕ) where
           by : (s : Bool) → s ≡ numberIs c m raw i (keysBelow k K) STRIKE → s ≡ struck (keysBelow k K) (layerOf c m raw)
           by true g =
               let u = sym g in
-              let is : (D : Entry) → strikeAt (keysBelow k K) (editOf D) ≡ entryIs (keysBelow k K) STRIKE D = λ D. strike-is D (keysBelow k K) in
-              sym (struck-first c m raw K N k i l none (editOf (entryAt c (i * (c + 2)) raw)) (drop (i + 1) (layerOf c m raw))
+              let is : (D : Entry) → strikeAt (keysBelow k K) (editOf D) ≡ entryIs (keysBelow k K) STRIKE D =
+              λ D. strike-is D (keysBelow k K) in
+              sym (struck-first c m raw K N k i l none (editOf (entryAt c (i * (c + 2)) raw))
+              (drop (i + 1) (layerOf c m raw))
               (from-entry c m i raw (there c m i (keysBelow k K) STRIKE raw (strikeAt (keysBelow k K)) is u))
               (head-is c m i (keysBelow k K) STRIKE raw (strikeAt (keysBelow k K)) is u))
           by false g =
               sym (first-struck c m raw K N k i l none
-              (head-not c m i (keysBelow k K) STRIKE raw (strikeAt (keysBelow k K)) (λ D. strike-is D (keysBelow k K)) (sym g)))
+              (head-not c m i (keysBelow k K) STRIKE raw (strikeAt (keysBelow k K)) (λ D. strike-is D (keysBelow k K))
+              (sym g)))

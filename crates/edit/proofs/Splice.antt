@@ -12,8 +12,8 @@ use mathlib.Core.List.{
   List·Memᴰ·tail as next,
   List·Memᴰ·not-nil as not-nil,
 }
-use Prim.Native.Nat.{ℕ, zero, suc, _+_, _≤_, _<_}
-use native.Mathlib.Nat.{zero-add, suc-add}
+use Prim.Native.Nat.{ℕ, zero, suc, _+_, _≤_}
+use native.Mathlib.Nat.{suc-add}
 use native.Mathlib.Omega.{arith}
 use lib.ListN.{length, take, drop, take-append-drop}
 use lib.Seq.{drop-drop, drop-nil}
@@ -22,12 +22,6 @@ use Rattle.order.proofs.Tests.{not-passed}
 use Rattle.order.proofs.Pairs.{AllPairs}
 
 module _ {A : Type 0} where
-  pub take-mem : (i : ℕ) (L : List A) (x : A) → Mem x (take i L) → Mem x L
-  take-mem zero L x m = absurd (not-nil m)
-  take-mem (suc i) [] x m = absurd (not-nil m)
-  take-mem (suc i) (y ∷ L) x (here e) = here e
-  take-mem (suc i) (y ∷ L) x (next m) = next (take-mem i L x m)
-
   pub drop-mem : (i : ℕ) (L : List A) (x : A) → Mem x (drop i L) → Mem x L
   drop-mem zero L x m = m
   drop-mem (suc i) [] x m = m
@@ -81,12 +75,14 @@ module _ {A : Type 0} (R : A → A → Bool) (e : A) where
   first-le [] = omega arith
   first-le (x ∷ L) = go (first-le L) (R x e)
     where
-      go : firstAt (λ y. not (R y e)) L ≤ length L → (t : Bool) → cond (not t) 0 (suc (firstAt (λ y. not (R y e)) L)) ≤ suc (length L)
+      go : firstAt (λ y. not (R y e)) L ≤ length L → (t : Bool)
+          → cond (not t) 0 (suc (firstAt (λ y. not (R y e)) L)) ≤ suc (length L)
       go ih true = omega arith
       go ih false = omega arith
 
   -- an element entered
-  pub insert-at : (i : ℕ) (L : List A) → ((d : A) → Mem d (take i L) → R d e ≡ true) → ((d : A) → Mem d (drop i L) → R d e ≡ false)
+  pub insert-at : (i : ℕ) (L : List A) → ((d : A) → Mem d (take i L) → R d e ≡ true)
+      → ((d : A) → Mem d (drop i L) → R d e ≡ false)
       → insert R e L ≡ take i L ++ (e ∷ drop i L)
   insert-at i L f r =
       ap (insert R e) (sym (take-append-drop i L))
@@ -94,7 +90,8 @@ module _ {A : Type 0} (R : A → A → Bool) (e : A) where
 
   -- and others taken out, the k from number i on
   module _ (g : A → Bool) where
-    kept : (X Y : List A) → ((d : A) → Mem d X → g d ≡ false) → filter (λ d. not (g d)) (X ++ Y) ≡ X ++ filter (λ d. not (g d)) Y
+    kept : (X Y : List A) → ((d : A) → Mem d X → g d ≡ false) → filter (λ d. not (g d)) (X ++ Y) ≡ X ++ filter
+        (λ d. not (g d)) Y
     kept [] Y h = refl
     kept (x ∷ X) Y h = rw (h x (here refl)) (ap (λ (t : List A). x ∷ t) (kept X Y (λ d m. h d (next m))))
 
@@ -102,7 +99,8 @@ module _ {A : Type 0} (R : A → A → Bool) (e : A) where
     kept-all [] h = refl
     kept-all (y ∷ Y) h = rw (h y (here refl)) (ap (λ (t : List A). y ∷ t) (kept-all Y (λ d m. h d (next m))))
 
-    gone : (X Y : List A) → ((d : A) → Mem d X → g d ≡ true) → filter (λ d. not (g d)) (X ++ Y) ≡ filter (λ d. not (g d)) Y
+    gone : (X Y : List A) → ((d : A) → Mem d X → g d ≡ true) → filter (λ d. not (g d)) (X ++ Y) ≡ filter
+        (λ d. not (g d)) Y
     gone [] Y h = refl
     gone (x ∷ X) Y h = rw (h x (here refl)) (gone X Y (λ d m. h d (next m)))
 
@@ -116,7 +114,8 @@ module _ {A : Type 0} (R : A → A → Bool) (e : A) where
         let left : filter (λ d. not (g d)) L ≡ take i L ++ drop (i + k) L =
         ap (filter (λ d. not (g d))) whole
         ∙ (kept (take i L) (take k (drop i L) ++ drop (i + k) L) (λ d m. f d m .1)
-        ∙ ap (λ (t : List A). take i L ++ t) (gone (take k (drop i L)) (drop (i + k) L) b ∙ kept-all (drop (i + k) L) (λ d m. r d m .1))) in
+        ∙ ap (λ (t : List A). take i L ++ t)
+        (gone (take k (drop i L)) (drop (i + k) L) b ∙ kept-all (drop (i + k) L) (λ d m. r d m .1))) in
         ap (insert R e) left
         ∙ (insert-past (take i L) (drop (i + k) L) (λ d m. f d m .0)
         ∙ ap (λ (t : List A). take i L ++ t) (insert-first (drop (i + k) L) (λ d m. r d m .0)))

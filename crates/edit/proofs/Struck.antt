@@ -1,28 +1,26 @@
 -- Striking a base row: its changes stand together, right where the strike lands.
 -- Assumes nothing.
-use Prim.Native.Nat.{ℕ, zero, suc, _+_, _-_, _*_, _≤_, _<_}
-use native.Mathlib.Nat.{sub-zero, zero-sub, suc-sub-suc}
+use Prim.Native.Nat.{ℕ, suc, _+_, _-_, _≤_, _<_}
 use native.Mathlib.Omega.{arith}
 use mathlib.Core.Path.{_≡_, refl, sym, ap, _∙_}
-use mathlib.Core.Logic.{_⊎_, inl, inr, ⊎-elim}
-use mathlib.Core.Bool.{Bool, true, false, not, cond, _&&_, _||_, true≢false}
+use mathlib.Core.Logic.{_⊎_, ⊎-elim}
+use mathlib.Core.Bool.{Bool, true, false, not, cond, true≢false}
 use mathlib.Core.List.{List, [], _∷_, _++_, List·Memᴰ as Mem}
-use lib.ListN.{length, getD, take, drop}
-use lib.Seq.{take-nil}
-use lib.Dec.{ltb, eqb}
-use borrow.Author.Tests.{eqb-true, eq-eqb, ne-eqb, ltb-true}
-use Rattle.order.specs.Lists.{insert, filter, firstAt}
+use lib.ListN.{getD, take, drop}
+use lib.Dec.{ltb}
+use borrow.Author.Tests.{eq-eqb, ne-eqb, ltb-true}
+use Rattle.order.specs.Lists.{firstAt}
 use Rattle.order.proofs.Tests.{tests, not-passed}
 use Rattle.order.proofs.Pairs.{AllPairs}
-use Rattle.model.specs.Row.{Row, key}
+use Rattle.model.specs.Row.{key}
 use Rattle.model.specs.Layer.{Deed, add, strike, change, Edit, at, Layer, position, struck, changesRow}
 use Rattle.model.specs.Raw.{ADD, STRIKE}
 use Rattle.model.specs.Edits.{deedBefore, before, strikeBase}
 use Rattle.model.proofs.Edits.{before-cases, before-lt, before-trans, before-eq}
 use Rattle.model.proofs.Layer.{struck-of}
+use Rattle.write.proofs.Layers.{take-mem, part}
 use Rattle.edit.specs.Landing.{aim, landing}
-use Rattle.edit.proofs.Splice.{take-mem, drop-mem, front, rest, splice}
-use Rattle.edit.proofs.Landed.{landing-le}
+use Rattle.edit.proofs.Splice.{drop-mem, front, rest, splice}
 
 -- a strike stands where its position puts it, whatever its key
 same-strike : (d : Edit) (s k l : ℕ) → before d (at s (strike k)) ≡ before d (at s (strike l))
@@ -47,18 +45,22 @@ past (at p b) s h = go (ltb p (s + 1)) refl
     go true e = absurd (true≢false (sym (before-lt (at p b) (at (s + 1) (add (0 ∷ []))) (ltb-true p (s + 1) e)) ∙ h))
     go false e = omega tests
 
--- The edits before the strike of row s do not change it; those at or before s that do not stand before it do; those past s do not.
+-- The edits before the strike of row s do not change it; those at or before s that do not stand before it do; those
+-- past s do not.
 module _ (s k : ℕ) where
   keeps : (d : Edit) → before d (at s (strike k)) ≡ true → changesRow s d ≡ false
   keeps (at p (add q)) h = refl
   keeps (at p (strike l)) h = refl
   keeps (at p (change j f)) h =
-      ⊎-elim (λ l. ne-eqb s p (λ e. omega arith)) (λ w. absurd (true≢false (sym (w .1)))) (before-cases p s (change j f) (strike k) h)
+      ⊎-elim (λ l. ne-eqb s p (λ e. omega arith)) (λ w. absurd (true≢false (sym (w .1))))
+      (before-cases p s (change j f) (strike k) h)
 
-  goes : (d : Edit) → before d (at s (strike k)) ≡ false → position d ≤ s → ((l : ℕ) → d ≡ at s (strike l) → ⊥) → changesRow s d ≡ true
+  goes : (d : Edit) → before d (at s (strike k)) ≡ false → position d ≤ s → ((l : ℕ) → d ≡ at s (strike l) → ⊥)
+      → changesRow s d ≡ true
   goes (at p b) h l none = go (ltb p s) refl
     where
-      level : p ≡ s → (b : Deed) → before (at p b) (at s (strike k)) ≡ false → ((l : ℕ) → at p b ≡ at s (strike l) → ⊥) → changesRow s (at p b) ≡ true
+      level : p ≡ s → (b : Deed) → before (at p b) (at s (strike k)) ≡ false
+          → ((l : ℕ) → at p b ≡ at s (strike l) → ⊥) → changesRow s (at p b) ≡ true
       level e (add q) f never = absurd (true≢false (sym (before-eq p s (add q) (strike k) e refl) ∙ f))
       level e (strike x) f never = absurd (never x (ap (λ (n : ℕ). at n (strike x)) e))
       level e (change j g) f never = eq-eqb s p (sym e)
@@ -79,22 +81,17 @@ module _ (s k : ℕ) where
       cell (change j f) = ne-eqb s p (λ e. omega arith)
 
 -- what stands before one of two edits stands before the other
-land-mono : (e f : Edit) → ((d : Edit) → before d e ≡ true → before d f ≡ true) → (L : Layer) → landing e L ≤ landing f L
+land-mono : (e f : Edit) → ((d : Edit) → before d e ≡ true → before d f ≡ true) → (L : Layer)
+    → landing e L ≤ landing f L
 unfolding landing
 land-mono e f h [] = omega arith
 land-mono e f h (x ∷ L) = go (land-mono e f h L) (before x e) refl
   where
     go : landing e L ≤ landing f L → (t : Bool) → before x e ≡ t
-        → cond (not t) 0 (suc (firstAt (λ d. not (before d e)) L)) ≤ cond (not (before x f)) 0 (suc (firstAt (λ d. not (before d f)) L))
+        → cond (not t) 0 (suc (firstAt (λ d. not (before d e)) L)) ≤ cond (not (before x f)) 0
+        (suc (firstAt (λ d. not (before d f)) L))
     go ih true g = rw (h x g) (omega arith)
     go ih false g = omega arith
-
--- a part of a list from i up to j
-part : (i j : ℕ) (L : Layer) → take (j - i) (drop i L) ≡ drop i (take j L)
-part zero j L = rw sub-zero
-part (suc i) zero L = rw zero-sub
-part (suc i) (suc j) [] = take-nil (suc j - suc i)
-part (suc i) (suc j) (x ∷ L) = rw suc-sub-suc (part i j L)
 
 module _ (s : ℕ) (L : Layer) (sorted : AllPairs before L) where
   abbrev i : ℕ
@@ -108,7 +105,8 @@ module _ (s : ℕ) (L : Layer) (sorted : AllPairs before L) where
     where
       below : (d : Edit) → before d (at s (strike 0)) ≡ true → before d (aim (s + 1) ADD 0) ≡ true
       below (at p b) h =
-          before-lt (at p b) (at (s + 1) (add (0 ∷ []))) (⊎-elim (λ l. omega arith) (λ w. omega (arith, w .0)) (before-cases p s b (strike 0) h))
+          before-lt (at p b) (at (s + 1) (add (0 ∷ [])))
+          (⊎-elim (λ l. omega arith) (λ w. omega (arith, w .0)) (before-cases p s b (strike 0) h))
 
   pub strike-splice : (K : List ℕ) → struck s L ≡ false
       → strikeBase K s L ≡ take i L ++ (at s (strike (getD K s 0)) ∷ drop (i + (end - i)) L)
@@ -128,9 +126,12 @@ module _ (s : ℕ) (L : Layer) (sorted : AllPairs before L) where
       gone : (d : Edit) → Mem d (take (end - i) (drop i L)) → changesRow s d ≡ true
       gone d m =
           let inside = rw (part i end L) at m in
-          goes s k d (same-strike d s k 0 ∙ rest before (at s (strike 0)) before-trans L sorted d (take-mem (end - i) (drop i L) d m))
+          goes s k d (same-strike d s k 0 ∙ rest before (at s (strike 0)) before-trans L sorted d
+          (take-mem (end - i) (drop i L) d m))
           (up-to d s (front before (aim (s + 1) ADD 0) L d (drop-mem i (take end L) d inside)))
-          (λ l e. true≢false (sym (struck-of s l L (rw (sym e) (take-mem end L d (drop-mem i (take end L) d inside)))) ∙ u))
+          (λ l e. true≢false (sym (struck-of s l L (rw (sym e) (take-mem end L d (drop-mem i (take end L) d inside))))
+          ∙ u))
 
-      last : (d : Edit) → Mem d (drop (i + (end - i)) L) → (before d (at s (strike k)) ≡ false) × (changesRow s d ≡ false)
+      last : (d : Edit) → Mem d (drop (i + (end - i)) L) → (before d (at s (strike k)) ≡ false)
+          × (changesRow s d ≡ false)
       last d m = beyond s k d (past d s (rest before (aim (s + 1) ADD 0) before-trans L sorted d (rw turn at m)))

@@ -1,5 +1,6 @@
--- Any two outcomes that a call's contract allows are equal: the answers, and what the layer's slice holds afterwards.
--- `Post` is the contract as the call is proved to meet it; κs are its lifetimes, a its arguments, s what is lent at its end.
+-- What each call's contract allows is the outcome of its step, and any two outcomes are equal.
+-- `Post` is the contract as the call is proved to meet it; κs are its lifetimes, a its arguments, s what is lent at its
+-- end.
 -- Assumes nothing.
 use mathlib.Core.Path.{_≡_, sym, ap, _∙_}
 use mathlib.Core.List.{List}
@@ -9,8 +10,11 @@ use denote.Ref.{now}
 use denote.Triple.Clauses.{AtExit}
 use borrow.Fn.Kinds.{Dens, endedOf}
 use Rattle.model.specs.declared.Answer.{Answer}
-use Rattle.model.specs.Layer.{Layer}
-use Rattle.model.specs.Calls.{edited, addedLayer, struckLayer, changedLayer}
+use Rattle.model.specs.Cell.{to}
+use Rattle.model.specs.Raw.{layerOf}
+use Rattle.model.specs.Steps.{Step, adding, striking, changing, stepOn}
+use Rattle.model.specs.Calls.{edited}
+use Rattle.edit.specs.Runs.{Outcome}
 use Rattle.edit.proofs.add.Kinds as add-kinds
 use Rattle.edit.proofs.add.Reads as add-contract
 use Rattle.edit.proofs.strike.Kinds as strike-kinds
@@ -18,31 +22,55 @@ use Rattle.edit.proofs.strike.Reads as strike-contract
 use Rattle.edit.proofs.change.Kinds as change-kinds
 use Rattle.edit.proofs.change.Reads as change-contract
 
--- an answer that is known, and a slice that the answer says
-one-outcome : (c m : ℕ) (M : Layer) (old new new′ : List ℕ) (x r r′ : Answer) → (r ≡ x) × (new ≡ edited c m r M old)
-    → (r′ ≡ x) × (new′ ≡ edited c m r′ M old) → (r ≡ r′) × (new ≡ new′)
-one-outcome c m M old new new′ x r r′ p q =
+pub one-outcome : (c m : ℕ) (raw K : List ℕ) (x : Step) (r r′ : Answer) (new new′ : List ℕ)
+    → Outcome c m raw K x r new → Outcome c m raw K x r′ new′ → (r ≡ r′) × (new ≡ new′)
+one-outcome c m raw K x r r′ new new′ p q =
     let e : r ≡ r′ = p .0 ∙ sym (q .0) in
-    (e, p .1 ∙ (ap (λ (t : Answer). edited c m t M old) e ∙ sym (q .1)))
+    (e, p .1 ∙ (ap (λ (t : Answer). edited c m t (stepOn K x (layerOf c m raw)) raw) e ∙ sym (q .1)))
 
-module _ (κs : Lfts 3) (a : Dens κs add-kinds.ps) (s s′ : AtExit (endedOf 3 add-kinds.ps add-kinds.r) κs) where
-  pub add-unique : (r r′ : Answer) → add-contract.Post κs a r s → add-contract.Post κs a r′ s′
-      → (r ≡ r′) × (now (s .1 .1 .0) ≡ now (s′ .1 .1 .0))
-  add-unique r r′ p q =
-      one-outcome (a .0) (a .1 .0) (addedLayer (a .0) (a .1 .0) (now (a .1 .1 .0)) (now (a .1 .1 .1 .0)) (now (a .1 .1 .1 .1 .0)))
-      (now (a .1 .1 .0)) _ _ _ r r′ p q
+module _ (κs : Lfts 3) (a : Dens κs add-kinds.ps) where
+  abbrev adds : Step
+  adds = adding (now (a .1 .1 .1 .1 .0))
 
-module _ (κs : Lfts 2) (a : Dens κs strike-kinds.ps) (s s′ : AtExit (endedOf 2 strike-kinds.ps strike-kinds.r) κs) where
-  pub strike-unique : (r r′ : Answer) → strike-contract.Post κs a r s → strike-contract.Post κs a r′ s′
-      → (r ≡ r′) × (now (s .1 .1 .0) ≡ now (s′ .1 .1 .0))
-  strike-unique r r′ p q =
-      one-outcome (a .0) (a .1 .0) (struckLayer (a .0) (a .1 .0) (now (a .1 .1 .0)) (now (a .1 .1 .1 .0)) (a .1 .1 .1 .1 .0))
-      (now (a .1 .1 .0)) _ _ _ r r′ p q
+  module _ (s : AtExit (endedOf 3 add-kinds.ps add-kinds.r) κs) where
+    pub add-outcome : (r : Answer) → add-contract.Post κs a r s
+        → Outcome (a .0) (a .1 .0) (now (a .1 .1 .0)) (now (a .1 .1 .1 .0)) adds r (now (s .1 .1 .0))
+    add-outcome r p = p
 
-module _ (κs : Lfts 2) (a : Dens κs change-kinds.ps) (s s′ : AtExit (endedOf 2 change-kinds.ps change-kinds.r) κs) where
-  pub change-unique : (r r′ : Answer) → change-contract.Post κs a r s → change-contract.Post κs a r′ s′
-      → (r ≡ r′) × (now (s .1 .1 .0) ≡ now (s′ .1 .1 .0))
-  change-unique r r′ p q =
-      one-outcome (a .0) (a .1 .0)
-      (changedLayer (a .0) (a .1 .0) (now (a .1 .1 .0)) (now (a .1 .1 .1 .0)) (a .1 .1 .1 .1 .0) (a .1 .1 .1 .1 .1 .0) (a .1 .1 .1 .1 .1 .1 .0))
-      (now (a .1 .1 .0)) _ _ _ r r′ p q
+    pub add-unique : (s′ : AtExit (endedOf 3 add-kinds.ps add-kinds.r) κs) (r r′ : Answer) → add-contract.Post κs a r s
+        → add-contract.Post κs a r′ s′ → (r ≡ r′) × (now (s .1 .1 .0) ≡ now (s′ .1 .1 .0))
+    add-unique s′ r r′ p q =
+        one-outcome (a .0) (a .1 .0) (now (a .1 .1 .0)) (now (a .1 .1 .1 .0)) adds r r′ (now (s .1 .1 .0))
+        (now (s′ .1 .1 .0)) p q
+
+module _ (κs : Lfts 2) (a : Dens κs strike-kinds.ps) where
+  abbrev strikes : Step
+  strikes = striking (a .1 .1 .1 .1 .0)
+
+  module _ (s : AtExit (endedOf 2 strike-kinds.ps strike-kinds.r) κs) where
+    pub strike-outcome : (r : Answer) → strike-contract.Post κs a r s
+        → Outcome (a .0) (a .1 .0) (now (a .1 .1 .0)) (now (a .1 .1 .1 .0)) strikes r (now (s .1 .1 .0))
+    strike-outcome r p = p
+
+    pub strike-unique : (s′ : AtExit (endedOf 2 strike-kinds.ps strike-kinds.r) κs) (r r′ : Answer)
+        → strike-contract.Post κs a r s
+        → strike-contract.Post κs a r′ s′ → (r ≡ r′) × (now (s .1 .1 .0) ≡ now (s′ .1 .1 .0))
+    strike-unique s′ r r′ p q =
+        one-outcome (a .0) (a .1 .0) (now (a .1 .1 .0)) (now (a .1 .1 .1 .0)) strikes r r′ (now (s .1 .1 .0))
+        (now (s′ .1 .1 .0)) p q
+
+module _ (κs : Lfts 2) (a : Dens κs change-kinds.ps) where
+  abbrev changes : Step
+  changes = changing (a .1 .1 .1 .1 .0) (a .1 .1 .1 .1 .1 .0) (to (a .1 .1 .1 .1 .1 .1 .0))
+
+  module _ (s : AtExit (endedOf 2 change-kinds.ps change-kinds.r) κs) where
+    pub change-outcome : (r : Answer) → change-contract.Post κs a r s
+        → Outcome (a .0) (a .1 .0) (now (a .1 .1 .0)) (now (a .1 .1 .1 .0)) changes r (now (s .1 .1 .0))
+    change-outcome r p = p
+
+    pub change-unique : (s′ : AtExit (endedOf 2 change-kinds.ps change-kinds.r) κs) (r r′ : Answer)
+        → change-contract.Post κs a r s
+        → change-contract.Post κs a r′ s′ → (r ≡ r′) × (now (s .1 .1 .0) ≡ now (s′ .1 .1 .0))
+    change-unique s′ r r′ p q =
+        one-outcome (a .0) (a .1 .0) (now (a .1 .1 .0)) (now (a .1 .1 .1 .0)) changes r r′ (now (s .1 .1 .0))
+        (now (s′ .1 .1 .0)) p q

@@ -1,6 +1,6 @@
 -- Where an edit lands in a layer in order: how many edits stand before it.
 use mathlib.Core.Bool.{Bool, not, _&&_, _||_}
-use mathlib.Core.List.{List, [], _∷_}
+use mathlib.Core.List.{[], _∷_}
 use Prim.Native.Nat.{ℕ}
 use lib.Dec.{ltb, eqb}
 use Rattle.order.specs.Lists.{firstAt}

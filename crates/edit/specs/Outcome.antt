@@ -1,7 +1,7 @@
 -- What is left of a call once its wish is clear: the new layer M has room in the slice, or refusal 9 is met.
 use mathlib.Core.Path.{_≡_}
 use mathlib.Core.List.{List, [], _∷_}
-use Prim.Native.Nat.{ℕ, _+_, _-_}
+use Prim.Native.Nat.{ℕ}
 use lib.ListN.{length}
 use lib.Dec.{ltb}
 use Rattle.model.specs.declared.Answer.{Answer}

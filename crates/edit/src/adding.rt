@@ -21,7 +21,8 @@ ghost use Rattle.edit.specs.Outcome.{addRest};
 
 // Key k is shown, where p base keys lie below it and its add would land at i.
 fn is_shown(c: usize, m: usize, layer: &[u64], keys: &[u64], k: u64, p: usize, i: usize) -> bool
-    requires { ⌜ Ready c m (now layer) (now keys) × (p ≡ keysBelow k (now keys)) × (i ≡ landing (aim p ADD k) (layerOf c m (now layer))) ⌝ }
+    requires { ⌜ Ready c m (now layer) (now keys) × (p ≡ keysBelow k (now keys))
+        × (i ≡ landing (aim p ADD k) (layerOf c m (now layer))) ⌝ }
     ensures { λ r. ⌜ r ≡ shownKey k (keysAfter (now (keys .entry)) (layerOf c m (now (layer .entry)))) ⌝ }
 {
     let s = p as u64;
@@ -54,9 +55,11 @@ pub fn add_row(
     row: &[u64],
     rows: usize,
 ) -> Answer
-    requires { ⌜ Ready c m (now layer) (now keys) × (length (now row) ≡ c) × (rows ≡ rowsAfter (length (now keys)) (layerOf c m (now layer))) ⌝ }
+    requires { ⌜ Ready c m (now layer) (now keys) × (length (now row) ≡ c)
+        × (rows ≡ rowsAfter (length (now keys)) (layerOf c m (now layer))) ⌝ }
     ensures { λ x. ⌜ (x ≡ addRest c m (now (layer .entry)) (now (keys .entry)) (now (row .entry)))
-        × (now (layer .exit) ≡ edited c m x (addedLayer c m (now (layer .entry)) (now (keys .entry)) (now (row .entry))) (now (layer .entry))) ⌝ }
+        × (now (layer .exit) ≡ edited c m x (addedLayer c m (now (layer .entry)) (now (keys .entry)) (now (row .entry)))
+        (now (layer .entry))) ⌝ }
 {
     let k = row[0];
     let p = landing::keys_below(k, keys);

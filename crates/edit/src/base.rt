@@ -46,8 +46,10 @@ pub fn put_entry(c: usize, m: usize, i: usize, k: usize, e: Entry, layer: &mut [
 
 // Strikes base row s, which is shown: its changes go, and a strike with its key comes.
 pub fn strike_base(c: usize, m: usize, layer: &mut [u64], keys: &[u64], s: usize) -> Answer
-    requires { ⌜ Ready c m (now layer) (now keys) × (s < length (now keys)) × (struck s (layerOf c m (now layer)) ≡ false) ⌝ }
-    ensures { λ r. ⌜ Entered c m (strikeBase (now (keys .entry)) s (layerOf c m (now (layer .entry)))) (now (layer .entry)) r (now (layer .exit)) ⌝ }
+    requires { ⌜ Ready c m (now layer) (now keys) × (s < length (now keys))
+        × (struck s (layerOf c m (now layer)) ≡ false) ⌝ }
+    ensures { λ r. ⌜ Entered c m (strikeBase (now (keys .entry)) s (layerOf c m (now (layer .entry))))
+        (now (layer .entry)) r (now (layer .exit)) ⌝ }
 {
     let p = s as u64;
     let i = landing::landing(c, m, layer, p, Entry::STRIKE, 0);
@@ -67,7 +69,8 @@ pub fn change_base(
     v: u64,
 ) -> Answer
     requires { ⌜ Ready c m (now layer) (now keys) × (s < length (now keys)) × (1 ≤ j) × (j < c) ⌝ }
-    ensures { λ r. ⌜ Entered c m (changeBase s j (to v) (layerOf c m (now (layer .entry)))) (now (layer .entry)) r (now (layer .exit)) ⌝ }
+    ensures { λ r. ⌜ Entered c m (changeBase s j (to v) (layerOf c m (now (layer .entry))))
+        (now (layer .entry)) r (now (layer .exit)) ⌝ }
 {
     let p = s as u64;
     let column = j as u64;

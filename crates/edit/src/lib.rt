@@ -42,7 +42,8 @@ fn ready(c: usize, m: usize, layer: &[u64], keys: &[u64]) -> Answer
 // Add a row: an add entry at its position, in key order among the adds there.
 pub fn add(c: usize, m: usize, layer: &mut [u64], keys: &[u64], row: &[u64]) -> Answer
     ensures { λ x. ⌜ (x ≡ addAnswer c m (now (layer .entry)) (now (keys .entry)) (now (row .entry)))
-        × (now (layer .exit) ≡ edited c m x (addedLayer c m (now (layer .entry)) (now (keys .entry)) (now (row .entry))) (now (layer .entry))) ⌝ }
+        × (now (layer .exit) ≡ edited c m x (addedLayer c m (now (layer .entry)) (now (keys .entry)) (now (row .entry)))
+        (now (layer .entry))) ⌝ }
 {
     if row.len() != c {
         return Answer::Refused(Refusal {
@@ -59,7 +60,8 @@ pub fn add(c: usize, m: usize, layer: &mut [u64], keys: &[u64], row: &[u64]) -> 
 // Strikes row number r, which is shown.
 fn strike_row(c: usize, m: usize, layer: &mut [u64], keys: &[u64], r: usize) -> Answer
     requires { ⌜ Ready c m (now layer) (now keys) × (r < rowsAfter (length (now keys)) (layerOf c m (now layer))) ⌝ }
-    ensures { λ x. ⌜ Entered c m (strikeRow (now (keys .entry)) r (layerOf c m (now (layer .entry)))) (now (layer .entry)) x (now (layer .exit)) ⌝ }
+    ensures { λ x. ⌜ Entered c m (strikeRow (now (keys .entry)) r (layerOf c m (now (layer .entry))))
+        (now (layer .entry)) x (now (layer .exit)) ⌝ }
 {
     match place::origin_of(c, keys.len(), m, layer, r) {
         Back::Base(s) => base::strike_base(c, m, layer, keys, s),
@@ -74,7 +76,8 @@ fn strike_row(c: usize, m: usize, layer: &mut [u64], keys: &[u64], r: usize) -> 
 // Strike row number r: an added row's entry disappears; a base row loses its changes and gains a strike.
 pub fn strike(c: usize, m: usize, layer: &mut [u64], keys: &[u64], r: usize) -> Answer
     ensures { λ x. ⌜ (x ≡ strikeAnswer c m (now (layer .entry)) (now (keys .entry)) r)
-        × (now (layer .exit) ≡ edited c m x (struckLayer c m (now (layer .entry)) (now (keys .entry)) r) (now (layer .entry))) ⌝ }
+        × (now (layer .exit) ≡ edited c m x (struckLayer c m (now (layer .entry)) (now (keys .entry)) r)
+        (now (layer .entry))) ⌝ }
 {
     match ready(c, m, layer, keys) {
         Answer::Refused(x) => Answer::Refused(x),
@@ -100,8 +103,10 @@ fn change_row(
     j: usize,
     v: u64,
 ) -> Answer
-    requires { ⌜ Ready c m (now layer) (now keys) × (r < rowsAfter (length (now keys)) (layerOf c m (now layer))) × (1 ≤ j) × (j < c) ⌝ }
-    ensures { λ x. ⌜ Entered c m (changeRowNo (now (keys .entry)) r j (to v) (layerOf c m (now (layer .entry)))) (now (layer .entry)) x (now (layer .exit)) ⌝ }
+    requires { ⌜ Ready c m (now layer) (now keys) × (r < rowsAfter (length (now keys)) (layerOf c m (now layer)))
+        × (1 ≤ j) × (j < c) ⌝ }
+    ensures { λ x. ⌜ Entered c m (changeRowNo (now (keys .entry)) r j (to v) (layerOf c m (now (layer .entry))))
+        (now (layer .entry)) x (now (layer .exit)) ⌝ }
 {
     match place::origin_of(c, keys.len(), m, layer, r) {
         Back::Base(s) => base::change_base(c, m, layer, keys, s, j, v),
@@ -113,7 +118,8 @@ fn change_row(
     }
 }
 
-// Change column j of row number r to v: an added row's value is replaced; a base row's change of j is replaced or entered in column order.
+// Change column j of row number r to v: an added row's value is replaced; a base row's change of j is replaced, or
+// entered in column order. An equal value is entered too.
 pub fn change(
     c: usize,
     m: usize,
@@ -124,7 +130,8 @@ pub fn change(
     v: u64,
 ) -> Answer
     ensures { λ x. ⌜ (x ≡ changeAnswer c m (now (layer .entry)) (now (keys .entry)) r j v)
-        × (now (layer .exit) ≡ edited c m x (changedLayer c m (now (layer .entry)) (now (keys .entry)) r j v) (now (layer .entry))) ⌝ }
+        × (now (layer .exit) ≡ edited c m x (changedLayer c m (now (layer .entry)) (now (keys .entry)) r j v)
+        (now (layer .entry))) ⌝ }
 {
     if c <= j {
         return Answer::Refused(Refusal {

@@ -1,26 +1,33 @@
 -- The numbers of a slice whose tail is moved and into whose gap an entry is written; what fits its room.
 -- Assumes nothing.
-use Prim.Native.Nat.{ℕ, zero, suc, _+_, _*_, _-_, _≤_, _<_, min, _/_}
-use native.Mathlib.Nat.{add-zero, add-mul, suc-mul, mul-le-mul-right, min-eq-left, min-eq-right, min-le-left, min-le-right, le-min, le-div-iff-mul-le}
+use Prim.Native.Nat.{ℕ, zero, suc, _+_, _*_, _-_, _≤_, _<_, _/_}
+use native.Mathlib.Nat.{suc-mul, mul-le-mul-right, min-le-left, min-le-right, le-min, le-div-iff-mul-le}
 use native.Mathlib.Omega.{arith}
 use mathlib.Core.Path.{_≡_, refl, sym, ap, _∙_}
-use mathlib.Core.List.{List, [], _∷_, _++_, append-assoc}
-use lib.ListN.{length, getD, take, drop, set, replicate, length-append, length-drop, length-replicate, take-append-drop}
-use lib.Seq.{paste, paste-zero, length-take-le, take-at, drop-at, drop-drop, take-append-le, take-take, take-all, take-add}
+use mathlib.Core.List.{List, _++_, append-assoc}
+use lib.ListN.{length, take, drop, set, replicate, length-append, length-drop, length-replicate, take-append-drop}
+use lib.Seq.{paste, paste-zero, length-take-le, drop-at, drop-drop, take-append-le, take-take, take-all}
 use Rattle.run.proofs.Laws.{copy-more, paste-paste}
 use Rattle.model.specs.declared.Entry.{Entry}
 use Rattle.model.specs.Raw.{Held, room}
-use Rattle.write.specs.Replaced.{entryNumbers, movedTail, replaced}
+use Rattle.write.specs.Replaced.{entryNumbers, movedTail}
 
 -- a run with zeros behind it, taken whole
-behind-run : (n k : ℕ) (s : List ℕ) → n ≤ length s → take (n + k) (take n s ++ replicate k 0) ≡ take n s ++ replicate k 0
+behind-run : (n k : ℕ) (s : List ℕ) → n ≤ length s → take (n + k) (take n s ++ replicate k 0) ≡ take n s ++ replicate
+    k 0
 behind-run n k s h =
     take-all (n + k) (take n s ++ replicate k 0)
-    (omega (arith, length-append (take n s) (replicate {A = ℕ} k 0), length-take-le n s h, length-replicate {A = ℕ} k 0))
+    (omega (
+      arith,
+      length-append (take n s) (replicate {A = ℕ} k 0),
+      length-take-le n s h,
+      length-replicate {A = ℕ} k 0,
+    ))
 
 -- The tail that starts at `from` and ends before `end` moves to `to`.
 module _ (xs : List ℕ) (to from end : ℕ) (h : from ≤ end) (r : end + (to - from) ≤ length xs) where
-  pub moved-up : from < to → paste xs (from + (to - from)) (drop from xs) (end - from) ≡ take to xs ++ movedTail to from end xs
+  pub moved-up : from < to → paste xs (from + (to - from)) (drop from xs) (end - from) ≡ take to xs ++ movedTail to
+      from end xs
   unfolding movedTail
   moved-up l =
       let a : from + (to - from) ≡ to = omega arith in
@@ -40,7 +47,8 @@ module _ (xs : List ℕ) (to from end : ℕ) (h : from ≤ end) (r : end + (to -
       let b : end - (from - to) ≡ to + (end - from) = omega arith in
       let g : end - (to + (end - from)) ≡ from - to = omega arith in
       let k : to + ((end - from) + (from - to)) ≡ end + (to - from) = omega arith in
-      let p : zs ≡ paste xs to (take (end - from) (drop from xs) ++ replicate (from - to) 0) ((end - from) + (from - to)) =
+      let p : zs ≡ paste xs to (take (end - from) (drop from xs) ++ replicate (from - to) 0)
+      ((end - from) + (from - to)) =
       f ∙ rw (b, g, e, a) (paste-paste xs (drop from xs) (replicate (from - to) 0) to (end - from) (from - to) o d) in
       p ∙ rw (k, behind-run (end - from) (from - to) (drop from xs) d) (simp append-assoc)
 
@@ -49,7 +57,8 @@ module _ (xs : List ℕ) (to from end : ℕ) (h : from ≤ end) (r : end + (to -
   moved-none e =
       let z : from - from ≡ 0 = omega arith in
       let k : end + 0 ≡ from + (end - from) = omega arith in
-      rw (e, z, k, ← drop-drop (end - from) from xs, take-append-drop (end - from) (drop from xs)) (sym (take-append-drop from xs))
+      rw (e, z, k, ← drop-drop (end - from) from xs, take-append-drop (end - from) (drop from xs))
+      (sym (take-append-drop from xs))
 
 -- an entry's numbers, stored one by one and then the values as a run
 pub store-all : (xs : List ℕ) (at c : ℕ) (e : Entry) → c ≤ length (e .vals) → at + (c + 2) ≤ length xs
@@ -59,9 +68,11 @@ store-all xs at c e h r =
     let l : length (take c (e .vals)) ≡ c = length-take-le c (e .vals) h in
     let q : 2 + length (take c (e .vals)) ≡ c + 2 = omega (arith, l) in
     let one : set xs at (e .pos) ≡ paste xs at (entryNumbers c e) 1 =
-    copy-more xs xs (entryNumbers c e) at 0 at (e .pos) (omega arith) (paste-zero xs at (entryNumbers c e)) (omega arith) (omega arith) refl in
+    copy-more xs xs (entryNumbers c e) at 0 at (e .pos) (omega arith) (paste-zero xs at (entryNumbers c e))
+    (omega arith) (omega arith) refl in
     let two : set (set xs at (e .pos)) (at + 1) (e .kind) ≡ paste xs at (entryNumbers c e) 2 =
-    copy-more (set xs at (e .pos)) xs (entryNumbers c e) at 1 (at + 1) (e .kind) refl one (omega arith) (omega arith) refl in
+    copy-more (set xs at (e .pos)) xs (entryNumbers c e) at 1 (at + 1) (e .kind) refl one (omega arith)
+    (omega arith) refl in
     ap (λ (d : List ℕ). paste d (at + 2) (take c (e .vals)) (length (take c (e .vals)))) two
     ∙ paste-paste xs (entryNumbers c e) (take c (e .vals)) at 2 (length (take c (e .vals))) (omega arith) (omega arith)
     ∙ ap (paste xs at (entryNumbers c e)) q
@@ -76,7 +87,8 @@ fill-gap xs new tail at w r l =
     let k : length (take (at + w) xs) ≡ at + w = length-take-le (at + w) xs r in
     let low : take at (take (at + w) xs ++ tail) ≡ take at xs =
     take-append-le at (take (at + w) xs) tail (omega arith) ∙ take-take at (at + w) xs (omega arith) in
-    rw (low, drop-at (take (at + w) xs) tail (at + w) k, take-all w new (omega arith)) (append-assoc (take at xs) new tail)
+    rw (low, drop-at (take (at + w) xs) tail (at + w) k, take-all w new (omega arith))
+    (append-assoc (take at xs) new tail)
 
 -- Entries i to i + k of m, in numbers.
 pub record Spans (w m i k len : ℕ) : Type 0 where
@@ -93,7 +105,8 @@ spans c m i k xs H h = record {
   few = omega (arith, mul-le-mul-right {m = m} (c + 2) (H .entries), H .columns);
 }
 
--- where there is room for the entries that are left and one more: for the one in front of the tail, and for the tail behind it
+-- where there is room for the entries that are left and one more: for the one in front of the tail, and for the tail
+-- behind it
 pub one-more : (w m i k len : ℕ) → i + k ≤ m → m * w ≤ len → (m + 1 - k) * w ≤ len
     → (i * w + w ≤ len) × (m * w + (i * w + w - (i + k) * w) ≤ len)
 one-more w m i k len h a r =
@@ -110,8 +123,11 @@ one-more w m i k len h a r =
 -- the room: entries that fit it fit the slice
 pub in-room : (c len k : ℕ) → k ≤ room c len → (k ≤ 512) × (k * (c + 2) ≤ len)
 unfolding room
-in-room c len k h =
-    (omega (arith, min-le-left 512 (len / (c + 2))), le-div-iff-mul-le {k = c + 2} (omega arith) .0 (omega (arith, min-le-right 512 (len / (c + 2)))))
+in-room c len k h = (
+  omega (arith, min-le-left 512 (len / (c + 2))),
+  le-div-iff-mul-le {k = c + 2} (omega arith) .0
+      (omega (arith, min-le-right 512 (len / (c + 2)))),
+)
 
 pub room-of : (c len k : ℕ) → k ≤ 512 → k * (c + 2) ≤ len → k ≤ room c len
 unfolding room

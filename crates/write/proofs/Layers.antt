@@ -1,15 +1,37 @@
 -- A layer's slice with entries replaced is the new layer, zeros where entries were freed, then what stood there before.
 -- Assumes nothing.
 use Prim.Native.Nat.{ℕ, zero, suc, _+_, _*_, _-_, _≤_, _<_, max}
-use native.Mathlib.Nat.{zero-add, suc-add, sub-self, zero-mul, suc-mul, sub-zero, zero-sub, suc-sub-suc, add-mul, add-assoc, mul-le-mul-right, mul-comm, mul-sub, max-eq-left, max-eq-right}
-use native.Mathlib.Numerals.{add-one}
+use native.Mathlib.Nat.{
+  zero-add,
+  suc-add,
+  sub-self,
+  zero-mul,
+  suc-mul,
+  sub-zero,
+  zero-sub,
+  suc-sub-suc,
+  add-mul,
+  mul-le-mul-right,
+  mul-comm,
+  mul-sub,
+}
 use native.Mathlib.Omega.{arith}
 use mathlib.Core.Path.{_≡_, refl, sym, ap, _∙_}
-use mathlib.Core.Bool.{Bool, true, false, cond, _&&_}
-use mathlib.Core.List.{List, [], _∷_, _++_, append-assoc, List·Memᴰ as Mem, List·Memᴰ·head as here, List·Memᴰ·tail as next, List·Memᴰ·not-nil as not-nil}
-use lib.ListN.{length, getD, take, drop, set, replicate, length-append, length-drop, length-replicate, length-set, take-append-drop, drop-of-length-le}
-use lib.Seq.{take-nil, drop-nil, length-take-le, take-at, drop-at, drop-drop, take-take, take-all, set-append-left, drop-set-lt, take-set-lt}
-use lib.Dec.{leb, ltb, eqb}
+use mathlib.Core.Bool.{true}
+use mathlib.Core.List.{
+  List,
+  [],
+  _∷_,
+  _++_,
+  append-assoc,
+  List·Memᴰ as Mem,
+  List·Memᴰ·head as here,
+  List·Memᴰ·tail as next,
+  List·Memᴰ·not-nil as not-nil,
+}
+use lib.ListN.{length, take, drop, set, replicate, length-append, length-drop, length-replicate, take-append-drop}
+use lib.Seq.{take-nil, length-take-le, take-at, drop-at, take-take, set-append-left}
+use lib.Dec.{leb, eqb}
 use borrow.Author.Tests.{eqb-true}
 use Rattle.order.specs.Lists.{gather}
 use Rattle.order.proofs.Tests.{and-r}
@@ -21,7 +43,7 @@ use Rattle.model.specs.Cell.{to, put}
 use Rattle.model.specs.Layer.{Edit, at, add, strike, change, Layer}
 use Rattle.model.specs.Raw.{numbersOf, flat, strikeEntry, changeEntry}
 use Rattle.model.specs.Form.{sound}
-use Rattle.model.specs.Edits.{changeAddedRow, changeAdded}
+use Rattle.model.specs.Edits.{changeAdded}
 use Rattle.model.specs.Calls.{edited}
 use Rattle.write.specs.Replaced.{entryNumbers, movedTail, replaced}
 
@@ -57,22 +79,29 @@ sound-wide c n l (at s (change j (to v))) h = omega (arith, length-replicate {A 
 pub flat-append : (c : ℕ) (L M : Layer) → flat c (L ++ M) ≡ flat c L ++ flat c M
 unfolding flat
 flat-append c [] M = refl
-flat-append c (e ∷ L) M = ap (λ (t : List ℕ). numbersOf c e ++ t) (flat-append c L M) ∙ sym (append-assoc (numbersOf c e) (flat c L) (flat c M))
+flat-append c (e ∷ L) M = ap (λ (t : List ℕ). numbersOf c e ++ t) (flat-append c L M)
+    ∙ sym (append-assoc (numbersOf c e) (flat c L) (flat c M))
 
 pub flat-length : (c : ℕ) (L : Layer) → Wide c L → length (flat c L) ≡ length L * (c + 2)
 unfolding flat
 flat-length c [] w = sym (zero-mul (c + 2))
 flat-length c (e ∷ L) w =
-    omega (arith, length-append (numbersOf c e) (flat c L), w e (here refl), flat-length c L (λ d m. w d (next m)), suc-mul (length L) (c + 2))
+    omega (
+      arith,
+      length-append (numbersOf c e) (flat c L),
+      w e (here refl),
+      flat-length c L (λ d m. w d (next m)),
+      suc-mul (length L) (c + 2),
+    )
 
-take-mem : {A : Type 0} (i : ℕ) (L : List A) (e : A) → Mem e (take i L) → Mem e L
+pub take-mem : {A : Type 0} (i : ℕ) (L : List A) (e : A) → Mem e (take i L) → Mem e L
 take-mem zero L e m = absurd (not-nil m)
 take-mem (suc i) [] e m = absurd (not-nil m)
 take-mem (suc i) (x ∷ L) e (here f) = here f
 take-mem (suc i) (x ∷ L) e (next m) = next (take-mem i L e m)
 
 -- a part of a list from `from` up to `end`, the two ways to say it
-part : (from end : ℕ) (xs : List ℕ) → take (end - from) (drop from xs) ≡ drop from (take end xs)
+pub part : {A : Type 0} (from end : ℕ) (xs : List A) → take (end - from) (drop from xs) ≡ drop from (take end xs)
 part zero end xs = rw sub-zero
 part (suc from) zero xs = rw zero-sub
 part (suc from) (suc end) [] = take-nil (suc end - suc from)
@@ -101,12 +130,14 @@ module _ (c m : ℕ) (raw : List ℕ) (L : Layer) (W : Written c m raw L) where
   front : (i : ℕ) → i ≤ m → take (i * (c + 2)) raw ≡ flat c (take i L)
   front i h =
       sym (take-take (i * (c + 2)) (m * (c + 2)) raw (mul-le-mul-right {m = i} (c + 2) h))
-      ∙ (ap (take (i * (c + 2))) (sym (split i)) ∙ take-at (flat c (take i L)) (flat c (drop i L)) (i * (c + 2)) (front-length i h))
+      ∙ (ap (take (i * (c + 2))) (sym (split i)) ∙ take-at (flat c (take i L)) (flat c (drop i L)) (i * (c + 2))
+      (front-length i h))
 
   back : (i : ℕ) → i ≤ m → take (m * (c + 2) - i * (c + 2)) (drop (i * (c + 2)) raw) ≡ flat c (drop i L)
   back i h =
       part (i * (c + 2)) (m * (c + 2)) raw
-      ∙ (ap (drop (i * (c + 2))) (sym (split i)) ∙ drop-at (flat c (take i L)) (flat c (drop i L)) (i * (c + 2)) (front-length i h))
+      ∙ (ap (drop (i * (c + 2))) (sym (split i)) ∙ drop-at (flat c (take i L)) (flat c (drop i L)) (i * (c + 2))
+      (front-length i h))
 
   -- the k entries from number i on replaced by those of N
   module _ (i k : ℕ) (h : i + k ≤ m) (N : Layer) (v : Wide c N) where
@@ -126,12 +157,19 @@ module _ (c m : ℕ) (raw : List ℕ) (L : Layer) (W : Written c m raw L) where
 
     flat-spliced : flat c spliced ≡ flat c (take i L) ++ (flat c N ++ flat c (drop (i + k) L))
     flat-spliced =
-        flat-append c (take i L) (N ++ drop (i + k) L) ∙ ap (λ (t : List ℕ). flat c (take i L) ++ t) (flat-append c N (drop (i + k) L))
+        flat-append c (take i L) (N ++ drop (i + k) L) ∙ ap (λ (t : List ℕ). flat c (take i L) ++ t)
+        (flat-append c N (drop (i + k) L))
 
     freed : (i + k) * (c + 2) - (i * (c + 2) + length (flat c N)) ≡ (m - length spliced) * (c + 2)
     freed =
         let p : (i + k) - (i + length N) ≡ m - length spliced = omega (arith, spliced-length) in
-        omega (arith, flat-length c N v, add-mul i (length N) (c + 2), sub-mul (i + k) (i + length N) (c + 2), ap (λ (n : ℕ). n * (c + 2)) p)
+        omega (
+          arith,
+          flat-length c N v,
+          add-mul i (length N) (c + 2),
+          sub-mul (i + k) (i + length N) (c + 2),
+          ap (λ (n : ℕ). n * (c + 2)) p,
+        )
 
     kept : m * (c + 2) + (i * (c + 2) + length (flat c N) - (i + k) * (c + 2)) ≡ max m (length spliced) * (c + 2)
     kept =
@@ -169,20 +207,30 @@ flat-set c zero j v s r (d ∷ L) w a h =
     let e : 0 * (c + 2) + (2 + j) ≡ suc (suc j) = omega (arith, zero-mul (c + 2)) in
     rw (e, ← at-head a) (ap (λ (t : List ℕ). s ∷ 65535 ∷ t) (sym (set-append-left r (gather (numbersOf c) L) j v h)))
 flat-set c (suc i) j v s r (d ∷ L) w a h =
-    let e : suc i * (c + 2) + (2 + j) ≡ length (numbersOf c d) + (i * (c + 2) + (2 + j)) = omega (arith, suc-mul i (c + 2), w d (here refl)) in
+    let e : suc i * (c + 2) + (2 + j) ≡ length (numbersOf c d) + (i * (c + 2) + (2 + j)) =
+    omega (arith, suc-mul i (c + 2), w d (here refl)) in
     rw e (ap (λ (t : List ℕ). numbersOf c d ++ t) (flat-set c i j v s r L (λ x m. w x (next m)) (at-tail a) h)
     ∙ sym (set-past (numbersOf c d) (gather (numbersOf c) L) (i * (c + 2) + (2 + j)) v))
 
-pub set-edited : (c m i j v s : ℕ) (r : Row) (raw : List ℕ) (L : Layer) → Written c m raw L → At (at s (add r)) i 0 L → length r ≡ c → j < c
+pub set-edited : (c m i j v s : ℕ) (r : Row) (raw : List ℕ) (L : Layer) → Written c m raw L → At (at s (add r)) i 0 L
+    → length r ≡ c → j < c
     → (x : ℕ) → set raw (i * (c + 2) + (2 + j)) v ≡ edited c m (Done x) (changeAdded i j (to v) L) raw
 set-edited c m i j v s r raw L W a l h x =
     let q = i * (c + 2) + (2 + j) in
-    let f : flat c L ++ drop (m * (c + 2)) raw ≡ raw = ap (λ (t : List ℕ). t ++ drop (m * (c + 2)) raw) (W .numbers) ∙ take-append-drop (m * (c + 2)) raw in
+    let f : flat c L ++ drop (m * (c + 2)) raw ≡ raw = ap (λ (t : List ℕ). t ++ drop (m * (c + 2)) raw) (W .numbers)
+    ∙ take-append-drop (m * (c + 2)) raw in
     let n : q < length (flat c L) =
-    omega (arith, flat-length c L (W .wide), suc-mul i (c + 2), mul-le-mul-right {m = suc i} {n = length L} (c + 2) (omega (arith, at-length a))) in
+    omega (
+      arith,
+      flat-length c L (W .wide),
+      suc-mul i (c + 2),
+      mul-le-mul-right {m = suc i} {n = length L} (c + 2)
+          (omega (arith, at-length a)),
+    ) in
     let e : length (changeAdded i j (to v) L) ≡ m = change-length i j v L ∙ W .size in
     let z : (m - m) * (c + 2) ≡ 0 = ap (λ (n : ℕ). n * (c + 2)) (sub-self m) ∙ zero-mul (c + 2) in
     let g : max m m ≡ m = omega arith in
     ap (λ (t : List ℕ). set t q v) (sym f)
     ∙ (set-append-left (flat c L) (drop (m * (c + 2)) raw) q v n
-    ∙ rw (e, z, g) (ap (λ (t : List ℕ). t ++ drop (m * (c + 2)) raw) (sym (flat-set c i j v s r L (W .wide) a (omega arith)))))
+    ∙ rw (e, z, g) (ap (λ (t : List ℕ). t ++ drop (m * (c + 2)) raw)
+    (sym (flat-set c i j v s r L (W .wide) a (omega arith)))))

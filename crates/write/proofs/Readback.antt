@@ -56,14 +56,20 @@ module _ (c n : ℕ) (some : 1 ≤ c) (few : c ≤ 8) where
       let from : 0 + (c + 2) ≡ length (numbersOf c e) + 0 = omega arith in
       let one = read-one e (gather (numbersOf c) L ++ zs) (h e (here refl)) in
       let rest = read-all L zs (λ d m. h d (next m)) in
-      rw (append-assoc (numbersOf c e) (gather (numbersOf c) L) zs, from, entries-past c (length L) 0 (numbersOf c e) (gather (numbersOf c) L ++ zs))
+      rw (
+        append-assoc (numbersOf c e) (gather (numbersOf c) L) zs,
+        from,
+        entries-past c (length L) 0 (numbersOf c e)
+            (gather (numbersOf c) L ++ zs),
+      )
       (λ i. one i ∷ rest i)
 
   -- the first m entries of a slice that begins with a layer's numbers are the layer
   pub read-back : (m : ℕ) (L : Layer) (zs : List ℕ) → length L ≡ m → ((e : Edit) → Mem e L → sound c n e ≡ true)
       → layerOf c m (flat c L ++ zs) ≡ L
   unfolding layerOf flat
-  read-back m L zs l h = ap (λ (k : ℕ). map editOf (entriesAt c k 0 (gather (numbersOf c) L ++ zs))) (sym l) ∙ read-all L zs h
+  read-back m L zs l h = ap (λ (k : ℕ). map editOf (entriesAt c k 0 (gather (numbersOf c) L ++ zs))) (sym l)
+      ∙ read-all L zs h
 
   -- its entries have their zeros
   all-zero : (k : ℕ) → all (λ v. eqb v 0) (replicate k 0) ≡ true
@@ -74,7 +80,8 @@ module _ (c n : ℕ) (some : 1 ≤ c) (few : c ≤ 8) where
   behind v zs =
       let e : c ≡ suc (c - 1) = omega arith in
       ap (λ (k : ℕ). all (λ x. eqb x 0) (drop 1 (take k (v ∷ replicate (c - 1) 0 ++ zs)))) e
-      ∙ (ap (all (λ x. eqb x 0)) (take-at (replicate (c - 1) 0) zs (c - 1) (length-replicate {A = ℕ} (c - 1) 0)) ∙ all-zero (c - 1))
+      ∙ (ap (all (λ x. eqb x 0)) (take-at (replicate (c - 1) 0) zs (c - 1) (length-replicate {A = ℕ} (c - 1) 0))
+      ∙ all-zero (c - 1))
 
   zeros-one : (e : Edit) (zs : List ℕ) → sound c n e ≡ true → zeros (entryAt c 0 (numbersOf c e ++ zs)) ≡ true
   zeros-one (at s (add r)) zs h = refl
@@ -90,7 +97,12 @@ module _ (c n : ℕ) (some : 1 ≤ c) (few : c ≤ 8) where
       let from : 0 + (c + 2) ≡ length (numbersOf c e) + 0 = omega arith in
       ⊎-elim (λ g. ap zeros g ∙ zeros-one e (gather (numbersOf c) L ++ zs) (h e (here refl)))
       (λ k. zeros-all L zs (λ x l. h x (next l)) d k)
-      (cases-cons (rw (append-assoc (numbersOf c e) (gather (numbersOf c) L) zs, from, entries-past c (length L) 0 (numbersOf c e) (gather (numbersOf c) L ++ zs)) at m))
+      (cases-cons (rw (
+        append-assoc (numbersOf c e) (gather (numbersOf c) L) zs,
+        from,
+        entries-past c (length L) 0
+            (numbersOf c e) (gather (numbersOf c) L ++ zs),
+      ) at m))
 
   pub zeros-back : (m : ℕ) (L : Layer) (zs : List ℕ) → length L ≡ m → ((e : Edit) → Mem e L → sound c n e ≡ true)
       → (d : Entry) → Mem d (entriesOf c m (flat c L ++ zs)) → zeros d ≡ true

@@ -1,4 +1,5 @@
--- A layer's slice with some of its entries replaced: the tail behind them moved, zeros where numbers were freed, the rest as it was.
+-- A layer's slice with some of its entries replaced: the tail behind them moved, zeros where numbers were freed, the
+-- rest as it was.
 use mathlib.Core.List.{List, _∷_, _++_}
 use Prim.Native.Nat.{ℕ, _+_, _-_, _*_}
 use lib.ListN.{length, take, drop, replicate}

@@ -1,7 +1,6 @@
 -- `edit::add` meets its contract: the refusals in the table's order, then the add of the row.
 -- Assumes nothing.
 use borrow.Author.Needs.{needs}
-use native.Mathlib.Omega.{arith}
 use mathlib.Core.Path.{_≡_, refl, sym, _∙_}
 use lib.ListN.{length}
 use Rattle.model.specs.declared.Answer.the-variants.{Done, Refused}
@@ -11,7 +10,8 @@ use Rattle.edit.proofs.add.Statement.{statement}
 use Rattle.edit.proofs.add.Tie as tie
 
 returns : tie.Need-returns
-returns c = let a = c .before .before .before .before .args in (add-not-wide (a .c) (a .m) (a .layer .now) (a .keys .now) (a .row .now) (c .if1 .taken), refl)
+returns c = let a = c .before .before .before .before .args in
+    (add-not-wide (a .c) (a .m) (a .layer .now) (a .keys .now) (a .row .now) (c .if1 .taken), refl)
 
 ready-requires : tie.Need-ready-requires
 ready-requires c κs = search needs
@@ -25,10 +25,12 @@ enum-known-rows c = search needs
 wide : (c : tie.Else1) → let a = c .before .before .before .before .args in length (a .row .now) ≡ a .c
 wide c = c .if1 .left
 
-refused : (c : tie.After-x) → let a = c .before .before .before .before .before .before .before .before .args in readyAnswer (a .c) (a .m) (a .layer .now) (a .keys .now) ≡ Refused (c .x .given .0 .0)
+refused : (c : tie.After-x) → let a = c .before .before .before .before .before .before .before .before .args in
+    readyAnswer (a .c) (a .m) (a .layer .now) (a .keys .now) ≡ Refused (c .x .given .0 .0)
 refused c = sym (c .before .before .ready .ensures) ∙ c .x .given .1
 
-passed : (c : tie.After-rows) → let a = c .before .before .before .before .before .before .before .before .args in readyAnswer (a .c) (a .m) (a .layer .now) (a .keys .now) ≡ Done (c .rows .given .0 .0)
+passed : (c : tie.After-rows) → let a = c .before .before .before .before .before .before .before .before .args in
+    readyAnswer (a .c) (a .m) (a .layer .now) (a .keys .now) ≡ Done (c .rows .given .0 .0)
 passed c = sym (c .before .before .ready .ensures) ∙ c .rows .given .1
 
 add-row-requires : tie.Need-add-row-requires
@@ -44,8 +46,11 @@ same-length c = search needs
 returns-2 : tie.Need-returns-2
 returns-2 c =
     let d = c .before in
-    let a = d .before .before .before .before .before .before .before .before .args in
-    (add-refused (a .c) (a .m) (a .layer .now) (a .keys .now) (a .row .now) (wide (d .before .before .before .before)) _ (refused d), refl)
+    let a = d .before .before .before .before .before .before .before .before .args in (
+      add-refused (a .c) (a .m) (a .layer .now) (a .keys .now) (a .row .now) (wide (d .before .before .before .before))
+          _ (refused d),
+      refl,
+    )
 
 same-length-2 : tie.Need-same-length-2
 same-length-2 c = search needs
@@ -54,8 +59,11 @@ returns-3 : tie.Need-returns-3
 returns-3 c =
     let d = c .before .before .before .before .before in
     let a = d .before .before .before .before .before .before .before .before .args in
-    let w = c .before .before .add-row .ensures in
-    (w .0 ∙ add-on (a .c) (a .m) (a .layer .now) (a .keys .now) (a .row .now) (wide (d .before .before .before .before)) _ (passed d), w .1)
+    let w = c .before .before .add-row .ensures in (
+      w .0 ∙ add-on (a .c) (a .m) (a .layer .now) (a .keys .now) (a .row .now)
+          (wide (d .before .before .before .before)) _ (passed d),
+      w .1,
+    )
 
 pub add-spec : {M : Type 1} → statement M
 add-spec =

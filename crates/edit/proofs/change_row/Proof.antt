@@ -1,9 +1,7 @@
 -- Changing a column of a row number: of the base row or of the added entry behind it.
 -- Assumes nothing.
 use borrow.Author.Needs.{needs}
-use native.Mathlib.Omega.{arith}
 use mathlib.Core.Path.{_≡_, sym, _∙_}
-use Prim.Native.Nat.{ℕ, _≤_, _<_}
 use lib.ListN.{length}
 use Rattle.model.specs.declared.Back.the-variants as backed
 use Rattle.model.specs.Raw.{layerOf}
@@ -25,11 +23,13 @@ origin-of-requires c κs =
 
 -- what stands behind the row number
 of-base : (c : tie.After-s) → let a = c .before .before .before .before .before .before .args in
-    originAnswer (back (length (a .keys .now)) (layerOf (a .c) (a .m) (a .layer .now)) (a .r)) ≡ backed.Base (c .s .given .0 .0)
+    originAnswer (back (length (a .keys .now)) (layerOf (a .c) (a .m) (a .layer .now)) (a .r)) ≡ backed.Base
+    (c .s .given .0 .0)
 of-base c = sym (c .before .before .origin-of .ensures) ∙ c .s .given .1
 
 of-added : (c : tie.After-i) → let a = c .before .before .before .before .before .before .args in
-    originAnswer (back (length (a .keys .now)) (layerOf (a .c) (a .m) (a .layer .now)) (a .r)) ≡ backed.Added (c .i .given .0 .0)
+    originAnswer (back (length (a .keys .now)) (layerOf (a .c) (a .m) (a .layer .now)) (a .r)) ≡ backed.Added
+    (c .i .given .0 .0)
 of-added c = sym (c .before .before .origin-of .ensures) ∙ c .i .given .1
 
 enum-known-s : tie.Need-enum-known-s
@@ -39,8 +39,13 @@ change-base-requires : tie.Need-change-base-requires
 change-base-requires c κs =
     let d = c .before .before in
     let b = d .before .before .before .before .before .before in
-    let a = b .args in
-    (b .pre .0, base-stands (a .c) (a .m) (a .layer .now) (a .keys .now) (a .r) (knows b) (b .pre .1) _ (of-base d) .0, b .pre .2, b .pre .3)
+    let a = b .args in (
+      b .pre .0,
+      base-stands (a .c) (a .m) (a .layer .now) (a .keys .now) (a .r) (knows b) (b .pre .1) _
+          (of-base d) .0,
+      b .pre .2,
+      b .pre .3,
+    )
 
 enum-known-i : tie.Need-enum-known-i
 enum-known-i c = search needs
@@ -49,8 +54,12 @@ set-value-requires : tie.Need-set-value-requires
 set-value-requires c κs =
     let d = c .before .before in
     let b = d .before .before .before .before .before .before in
-    let a = b .args in
-    (knows b .acc .held, added-below (a .c) (a .m) (a .layer .now) (a .keys .now) (a .r) (knows b) (b .pre .1) _ (of-added d), b .pre .3)
+    let a = b .args in (
+      knows b .acc .held,
+      added-below (a .c) (a .m) (a .layer .now) (a .keys .now) (a .r) (knows b) (b .pre .1) _
+          (of-added d),
+      b .pre .3,
+    )
 
 enum-known-x : tie.Need-enum-known-x
 enum-known-x c = search needs
@@ -63,7 +72,8 @@ returns c =
     let d = c .before .before .before .before .before in
     let b = d .before .before .before .before .before .before in
     let a = b .args in
-    change-of-base (a .c) (a .m) (a .layer .now) (a .keys .now) (a .r) (knows b) (b .pre .1) _ (of-base d) (a .j) (a .v) _ _ (c .before .before .change-base .ensures)
+    change-of-base (a .c) (a .m) (a .layer .now) (a .keys .now) (a .r) (knows b) (b .pre .1) _ (of-base d) (a .j)
+    (a .v) _ _ (c .before .before .change-base .ensures)
 
 same-length-2 : tie.Need-same-length-2
 same-length-2 c = search needs
@@ -73,7 +83,8 @@ returns-2 c =
     let d = c .before .before .before .before .before in
     let b = d .before .before .before .before .before .before in
     let a = b .args in
-    change-of-added (a .c) (a .m) (a .layer .now) (a .keys .now) (a .r) (knows b) (b .pre .1) _ (of-added d) (a .j) (a .v) (b .pre .3) _ (c .before .before .set-value .ensures)
+    change-of-added (a .c) (a .m) (a .layer .now) (a .keys .now) (a .r) (knows b) (b .pre .1) _ (of-added d) (a .j)
+    (a .v) (b .pre .3) _ (c .before .before .set-value .ensures)
 
 same-length-3 : tie.Need-same-length-3
 same-length-3 c = search needs

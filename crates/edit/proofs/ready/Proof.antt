@@ -34,7 +34,8 @@ formed : (c : tie.After-rows) →
     formAnswer (a .c) (length (a .keys .now)) (a .m) (a .layer .now) ≡ Done (c .rows .given .0 .0)
 formed c = sym (c .before .before .check .ensures) ∙ c .rows .given .1
 
-rising : (c : tie.Else1) → ascending (c .before .before .before .before .before .before .before .before .args .keys .now) ≡ true
+rising : (c : tie.Else1)
+    → ascending (c .before .before .before .before .before .before .before .before .args .keys .now) ≡ true
 rising c = sym (c .before .keys-ascend .ensures) ∙ not-false _ (c .if1 .left)
 
 returns : tie.Need-returns
@@ -50,7 +51,8 @@ returns-2 : tie.Need-returns-2
 unfolding readyAnswer
 returns-2 c =
     let e = c .before .before in
-    ap (withRows _) (place-refused _ _ _ _ _ (formed (e .before .before .before)) (rising e) _ (c .before .fit-place .ensures) (c .if2 .taken))
+    ap (withRows _) (place-refused _ _ _ _ _ (formed (e .before .before .before)) (rising e) _
+    (c .before .fit-place .ensures) (c .if2 .taken))
 
 returns-3 : tie.Need-returns-3
 unfolding readyAnswer
@@ -64,7 +66,8 @@ returns-4 c =
     let e = c .before .before in
     let a = e .before .before .before .before .before .before .before .before .args in
     let f = formed (e .before .before .before) in
-    ap Done (accepted (a .c) (length (a .keys .now)) (a .m) (a .layer .now) (e .before .before .before .rows .given .0 .0) f .shown)
+    ap Done (accepted (a .c) (length (a .keys .now)) (a .m) (a .layer .now)
+    (e .before .before .before .rows .given .0 .0) f .shown)
     ∙ ap (withRows (rowsAfter (length (a .keys .now)) (layerOf (a .c) (a .m) (a .layer .now))))
     (fit-accepted _ _ _ _ _ f (rising e) (omega (arith, c .if2 .left, c .before .fit-place .ensures)))
 

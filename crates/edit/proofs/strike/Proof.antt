@@ -18,10 +18,12 @@ enum-known-x c = search needs
 enum-known-rows : tie.Need-enum-known-rows
 enum-known-rows c = search needs
 
-refused : (c : tie.After-x) → let a = c .before .before .before .before .before .before .args in readyAnswer (a .c) (a .m) (a .layer .now) (a .keys .now) ≡ Refused (c .x .given .0 .0)
+refused : (c : tie.After-x) → let a = c .before .before .before .before .before .before .args in
+    readyAnswer (a .c) (a .m) (a .layer .now) (a .keys .now) ≡ Refused (c .x .given .0 .0)
 refused c = sym (c .before .before .ready .ensures) ∙ c .x .given .1
 
-passed : (c : tie.After-rows) → let a = c .before .before .before .before .before .before .args in readyAnswer (a .c) (a .m) (a .layer .now) (a .keys .now) ≡ Done (c .rows .given .0 .0)
+passed : (c : tie.After-rows) → let a = c .before .before .before .before .before .before .args in
+    readyAnswer (a .c) (a .m) (a .layer .now) (a .keys .now) ≡ Done (c .rows .given .0 .0)
 passed c = sym (c .before .before .ready .ensures) ∙ c .rows .given .1
 
 same-length : tie.Need-same-length
@@ -56,8 +58,11 @@ returns-3 : tie.Need-returns-3
 returns-3 c =
     let d = c .before .before .before .before .before .before in
     let a = d .before .before .before .before .before .before .args in
-    let w = c .before .before .strike-row .ensures in
-    (w .answer ∙ strike-row (a .c) (a .m) (a .layer .now) (a .keys .now) (a .r) _ (passed d) (c .before .before .before .before .if1 .left), w .slice)
+    let w = c .before .before .strike-row .ensures in (
+      w .answer ∙ strike-row (a .c) (a .m) (a .layer .now) (a .keys .now) (a .r) _ (passed d)
+          (c .before .before .before .before .if1 .left),
+      w .slice,
+    )
 
 pub strike-spec : {M : Type 1} → statement M
 strike-spec =

@@ -3,7 +3,7 @@
 use borrow.Author.Needs.{needs}
 use native.Mathlib.Omega.{arith}
 use mathlib.Core.Path.{_≡_, sym, _∙_}
-use Prim.Native.Nat.{ℕ, _≤_, _<_}
+use Prim.Native.Nat.{_<_}
 use lib.ListN.{length}
 use Rattle.model.specs.declared.Back.the-variants as backed
 use Rattle.model.specs.Raw.{layerOf}
@@ -25,11 +25,13 @@ origin-of-requires c κs =
 
 -- what stands behind the row number
 of-base : (c : tie.After-s) → let a = c .before .before .before .before .before .before .args in
-    originAnswer (back (length (a .keys .now)) (layerOf (a .c) (a .m) (a .layer .now)) (a .r)) ≡ backed.Base (c .s .given .0 .0)
+    originAnswer (back (length (a .keys .now)) (layerOf (a .c) (a .m) (a .layer .now)) (a .r)) ≡ backed.Base
+    (c .s .given .0 .0)
 of-base c = sym (c .before .before .origin-of .ensures) ∙ c .s .given .1
 
 of-added : (c : tie.After-i) → let a = c .before .before .before .before .before .before .args in
-    originAnswer (back (length (a .keys .now)) (layerOf (a .c) (a .m) (a .layer .now)) (a .r)) ≡ backed.Added (c .i .given .0 .0)
+    originAnswer (back (length (a .keys .now)) (layerOf (a .c) (a .m) (a .layer .now)) (a .r)) ≡ backed.Added
+    (c .i .given .0 .0)
 of-added c = sym (c .before .before .origin-of .ensures) ∙ c .i .given .1
 
 below : (c : tie.After-i) → c .i .given .0 .0 < c .before .before .before .before .before .before .args .m
@@ -53,7 +55,10 @@ enum-known-i : tie.Need-enum-known-i
 enum-known-i c = search needs
 
 remove-requires : tie.Need-remove-requires
-remove-requires c κs = (knows (c .before .before .before .before .before .before .before .before) .acc .held, omega (arith, below (c .before .before)))
+remove-requires c κs = (
+  knows (c .before .before .before .before .before .before .before .before) .acc .held,
+  omega (arith, below (c .before .before)),
+)
 
 sub-t19 : tie.Need-sub-t19
 sub-t19 c = omega (arith, below (c .before .before .before .before .before))
@@ -69,7 +74,8 @@ returns c =
     let d = c .before .before .before .before .before in
     let b = d .before .before .before .before .before .before in
     let a = b .args in
-    strike-of-base (a .c) (a .m) (a .layer .now) (a .keys .now) (a .r) (knows b) (b .pre .1) _ (of-base d) _ _ (c .before .before .strike-base .ensures)
+    strike-of-base (a .c) (a .m) (a .layer .now) (a .keys .now) (a .r) (knows b) (b .pre .1) _ (of-base d) _ _
+    (c .before .before .strike-base .ensures)
 
 same-length-2 : tie.Need-same-length-2
 same-length-2 c = search needs
@@ -79,7 +85,8 @@ returns-2 c =
     let d = c .before .before .before .before .before in
     let b = d .before .before .before .before .before .before in
     let a = b .args in
-    strike-of-added (a .c) (a .m) (a .layer .now) (a .keys .now) (a .r) (knows b) (b .pre .1) _ (of-added d) _ (c .before .before .remove .ensures)
+    strike-of-added (a .c) (a .m) (a .layer .now) (a .keys .now) (a .r) (knows b) (b .pre .1) _ (of-added d) _
+    (c .before .before .remove .ensures)
 
 same-length-3 : tie.Need-same-length-3
 same-length-3 c = search needs

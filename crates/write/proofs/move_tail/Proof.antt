@@ -2,8 +2,7 @@
 -- Assumes nothing.
 use borrow.Author.Needs.{needs}
 use native.Mathlib.Omega.{arith}
-use mathlib.Core.Path.{_≡_, _∙_}
-use Prim.Native.Nat.{ℕ}
+use mathlib.Core.Path.{_∙_}
 use Rattle.write.proofs.Laws.{moved-up, moved-down, moved-none}
 use Rattle.write.proofs.move_tail.Statement.{statement}
 use Rattle.write.proofs.move_tail.Tie as tie

@@ -3,8 +3,8 @@
 use borrow.Author.Needs.{needs}
 use native.Mathlib.Nat.{add-zero}
 use native.Mathlib.Omega.{arith}
-use mathlib.Core.Path.{_≡_, sym, ap, _∙_}
-use mathlib.Core.List.{List, _++_}
+use mathlib.Core.Path.{sym, ap, _∙_}
+use mathlib.Core.List.{_++_}
 use Prim.Native.Nat.{ℕ, _+_, _*_}
 use lib.ListN.{length, take}
 use Rattle.write.specs.Replaced.{movedTail, replaced}
@@ -42,7 +42,8 @@ returns c =
     let a = c .before .before .before .before .before .args in
     let w = a .c + 2 in
     c .before .before .move-tail .ensures
-    ∙ ap (λ (n : ℕ). take (a .i * w) (a .layer .now) ++ movedTail n ((a .i + a .k) * w) (a .m * w) (a .layer .now)) (sym (add-zero (a .i * w)))
+    ∙ ap (λ (n : ℕ). take (a .i * w) (a .layer .now) ++ movedTail n ((a .i + a .k) * w) (a .m * w) (a .layer .now))
+    (sym (add-zero (a .i * w)))
 
 pub remove-spec : {M : Type 1} → statement M
 remove-spec =

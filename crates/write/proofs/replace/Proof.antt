@@ -17,7 +17,8 @@ span c = let a = c .args in spans (a .c) (a .m) (a .i) (a .k) (a .layer .now) (c
 
 more : (c : tie.Start) → let a = c .args in let w = a .c + 2 in
     (a .i * w + w ≤ length (a .layer .now)) × (a .m * w + (a .i * w + w - (a .i + a .k) * w) ≤ length (a .layer .now))
-more c = let a = c .args in one-more (a .c + 2) (a .m) (a .i) (a .k) (length (a .layer .now)) (c .pre .1) (c .pre .0 .room) (c .pre .2)
+more c = let a = c .args in one-more (a .c + 2) (a .m) (a .i) (a .k) (length (a .layer .now)) (c .pre .1)
+    (c .pre .0 .room) (c .pre .2)
 
 wide : (c : tie.Start) → c .args .c ≤ length (c .args .e .vals)
 wide c = let e : length (c .args .e .vals) ≡ 8 = search needs in omega (arith, c .pre .0 .columns)
@@ -60,9 +61,12 @@ returns c =
     let F = entryNumbers (a .c) (a .e) in
     let l : length F ≡ w = numbers-length (a .c) (a .e) (wide b) in
     c .before .before .store .ensures
-    ∙ ap (λ (l : List ℕ). paste l (a .i * w) F w) (c .before .before .before .before .before .before .move-tail .ensures)
-    ∙ fill-gap (a .layer .now) F (movedTail (a .i * w + w) ((a .i + a .k) * w) (a .m * w) (a .layer .now)) (a .i * w) w (more b .0) l
-    ∙ ap (λ (n : ℕ). take (a .i * w) (a .layer .now) ++ (F ++ movedTail (a .i * w + n) ((a .i + a .k) * w) (a .m * w) (a .layer .now))) (sym l)
+    ∙ ap (λ (l : List ℕ). paste l (a .i * w) F w)
+    (c .before .before .before .before .before .before .move-tail .ensures)
+    ∙ fill-gap (a .layer .now) F (movedTail (a .i * w + w) ((a .i + a .k) * w) (a .m * w) (a .layer .now))
+    (a .i * w) w (more b .0) l
+    ∙ ap (λ (n : ℕ). take (a .i * w)
+    (a .layer .now) ++ (F ++ movedTail (a .i * w + n) ((a .i + a .k) * w) (a .m * w) (a .layer .now))) (sym l)
 
 pub replace-spec : {M : Type 1} → statement M
 replace-spec =

@@ -3,7 +3,7 @@
 use borrow.Author.Needs.{needs}
 use native.Mathlib.Nat.{min-eq-left, min-eq-right}
 use native.Mathlib.Omega.{arith}
-use mathlib.Core.Path.{_≡_, sym}
+use mathlib.Core.Path.{sym}
 use Rattle.model.specs.Raw.{room}
 use Rattle.write.proofs.room_of.Statement.{statement}
 use Rattle.write.proofs.room_of.Tie as tie

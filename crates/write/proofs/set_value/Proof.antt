@@ -3,13 +3,14 @@
 use borrow.Author.Needs.{needs}
 use native.Mathlib.Nat.{mul-le-mul-right, suc-mul}
 use native.Mathlib.Omega.{arith}
-use Prim.Native.Nat.{ℕ, suc, _+_, _*_, _≤_}
+use Prim.Native.Nat.{suc, _+_, _*_, _≤_}
 use lib.ListN.{length}
 use Rattle.write.proofs.Laws.{Spans, spans}
 use Rattle.write.proofs.set_value.Statement.{statement}
 use Rattle.write.proofs.set_value.Tie as tie
 
-own : (c : tie.Start) → let a = c .args in (a .i * (a .c + 2) + (a .c + 2) ≤ a .m * (a .c + 2)) × Spans (a .c + 2) (a .m) (a .m) 0 (length (a .layer .now))
+own : (c : tie.Start) → let a = c .args in (a .i * (a .c + 2) + (a .c + 2) ≤ a .m * (a .c + 2))
+    × Spans (a .c + 2) (a .m) (a .m) 0 (length (a .layer .now))
 own c =
     let a = c .args in (
       omega (arith, suc-mul (a .i) (a .c + 2), mul-le-mul-right {m = suc (a .i)} (a .c + 2) (c .pre .1)),

@@ -3,8 +3,8 @@
 use borrow.Author.Needs.{needs}
 use native.Mathlib.Omega.{arith}
 use mathlib.Core.Path.{_≡_, sym, _∙_}
-use Prim.Native.Nat.{ℕ, _+_, _≤_}
-use lib.ListN.{length, length-set, take}
+use Prim.Native.Nat.{_≤_}
+use lib.ListN.{length, length-set}
 use lib.Seq.{length-take-le}
 use Rattle.write.proofs.Laws.{store-all}
 use Rattle.write.proofs.store.Statement.{statement}
@@ -33,7 +33,8 @@ array-share-prefix-vals c = omega (arith, wide (c .before .before))
 
 slice-aggregate-copy-in : tie.Need-slice-aggregate-copy-in
 slice-aggregate-copy-in c =
-    let a = c .before .before .before .args in sym (length-take-le (a .c) (a .e .vals) (wide (c .before .before .before)))
+    let a = c .before .before .before .args in
+    sym (length-take-le (a .c) (a .e .vals) (wide (c .before .before .before)))
 
 add-copy-in : tie.Need-add-copy-in
 add-copy-in c = search needs

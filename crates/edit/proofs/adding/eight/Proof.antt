@@ -1,7 +1,7 @@
 -- A row written over eight zeros.
 -- Assumes nothing.
 use borrow.Author.Needs.{needs}
-use mathlib.Core.Path.{_≡_, _∙_}
+use mathlib.Core.Path.{_∙_}
 use Rattle.edit.proofs.Added.{filled}
 use Rattle.edit.proofs.adding.eight.Statement.{statement}
 use Rattle.edit.proofs.adding.eight.Tie as tie

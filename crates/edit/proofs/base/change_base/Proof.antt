@@ -1,11 +1,8 @@
 -- Changing a cell of a base row: its old change is replaced where it stands, or the new one is entered where it lands.
 -- Assumes nothing.
 use borrow.Author.Needs.{needs}
-use native.Mathlib.Omega.{arith}
-use mathlib.Core.Path.{_≡_, sym, ap, _∙_}
-use mathlib.Core.Bool.{true, false}
-use Prim.Native.Nat.{ℕ, _+_, _-_, _≤_}
-use Rattle.edit.specs.Ready.{numberIs}
+use mathlib.Core.Path.{sym, _∙_}
+use Prim.Native.Nat.{_-_}
 use Rattle.edit.proofs.Known.{Known, known}
 use Rattle.edit.proofs.Cores.{on-old, change-on-old, off-old, change-off-old}
 use Rattle.edit.proofs.base.change_base.Statement.{statement}
@@ -29,7 +26,8 @@ put-entry-requires c κs =
     let a = b .args in (
       knows b .acc .held,
       on-old (a .c) (a .m) (a .s) (a .layer .now) (a .keys .now) (knows b) (a .j) (a .v) _ (b .pre .2) (b .pre .3)
-          (c .before .before .before .before .before .landing .ensures) (sym (c .before .before .number-is .ensures) ∙ c .before .if1 .taken),
+          (c .before .before .before .before .before .landing .ensures)
+          (sym (c .before .before .number-is .ensures) ∙ c .before .if1 .taken),
     )
 
 same-length : tie.Need-same-length
@@ -42,7 +40,8 @@ returns c =
     let a = b .args in
     change-on-old (a .c) (a .m) (a .s) (a .layer .now) (a .keys .now) (knows b) (a .j) (a .v) _ (b .pre .2) (b .pre .3)
     (d .before .before .before .before .landing .ensures) (sym (d .before .number-is .ensures) ∙ d .if1 .taken)
-    _ _ (d .before .before .before .change .result) (d .before .before .before .change .ensures) (c .before .before .put-entry .ensures)
+    _ _ (d .before .before .before .change .result) (d .before .before .before .change .ensures)
+    (c .before .before .put-entry .ensures)
 
 put-entry-requires-2 : tie.Need-put-entry-requires-2
 put-entry-requires-2 c κs =
@@ -63,7 +62,8 @@ returns-2 c =
     let a = b .args in
     change-off-old (a .c) (a .m) (a .s) (a .layer .now) (a .keys .now) (knows b) (a .j) (a .v) _ (b .pre .2) (b .pre .3)
     (d .before .before .before .before .landing .ensures) (sym (d .before .number-is .ensures) ∙ d .if1 .left)
-    _ _ (d .before .before .before .change .result) (d .before .before .before .change .ensures) (c .before .before .put-entry2 .ensures)
+    _ _ (d .before .before .before .change .result) (d .before .before .before .change .ensures)
+    (c .before .before .put-entry2 .ensures)
 
 pub change-base-spec : {M : Type 1} → statement M
 change-base-spec =

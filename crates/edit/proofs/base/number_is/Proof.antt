@@ -2,11 +2,9 @@
 -- Assumes nothing.
 use borrow.Author.Needs.{needs}
 use borrow.Author.Tests.{lt-ltb, le-ltb}
-use native.Mathlib.Nat.{mul-le-mul-right, suc-mul}
 use native.Mathlib.Omega.{arith}
-use mathlib.Core.Path.{_≡_, refl, sym, ap, _∙_}
-use mathlib.Core.Bool.{Bool, _&&_}
-use Prim.Native.Nat.{ℕ, suc, _+_, _*_, _≤_}
+use mathlib.Core.Bool.{_&&_}
+use Prim.Native.Nat.{_+_, _*_, _≤_}
 use lib.ListN.{length}
 use lib.Dec.{eqb}
 use Rattle.model.proofs.Raw.{within, small}
@@ -20,8 +18,11 @@ own : (c : tie.Else1) → let a = c .before .before .args in
     (a .i * (a .c + 2) + (a .c + 2) ≤ length (a .layer .now)) × (a .m * (a .c + 2) ≤ 5120)
 own c =
     let b = c .before .before in
-    let a = b .args in
-    (omega (arith, within (a .i) (a .m) (a .c + 2) (c .if1 .left), b .pre .room), small (b .pre .entries) (b .pre .columns))
+    let a = b .args in (
+      omega (arith, within (a .i) (a .m) (a .c + 2) (c .if1 .left), b .pre .room),
+      small (b .pre .entries)
+          (b .pre .columns),
+    )
 
 add-at : tie.Need-add-at
 add-at c = search needs

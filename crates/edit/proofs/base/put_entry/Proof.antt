@@ -3,8 +3,8 @@
 use borrow.Author.Needs.{needs}
 use borrow.Author.Tests.{lt-ltb, le-ltb}
 use native.Mathlib.Omega.{arith}
-use mathlib.Core.Path.{_≡_, refl, sym, ap, _∙_}
-use Prim.Native.Nat.{ℕ, _+_, _-_, _≤_, _<_}
+use mathlib.Core.Path.{refl}
+use Prim.Native.Nat.{_+_, _-_, _≤_, _<_}
 use lib.ListN.{length}
 use Rattle.model.specs.Raw.{room}
 use Rattle.write.proofs.Laws.{in-room}
@@ -27,7 +27,8 @@ returns c =
     let l : room (a .c) (length (a .layer .now)) < a .m + 1 - a .k = omega (arith, e, c .if1 .taken) in
     rw (lt-ltb (room (a .c) (length (a .layer .now))) (a .m + 1 - a .k) l) (refl, refl)
 
-fits : (c : tie.Else1) → let a = c .before .before .before .args in a .m + 1 - a .k ≤ room (a .c) (length (a .layer .now))
+fits : (c : tie.Else1) → let a = c .before .before .before .args in
+    a .m + 1 - a .k ≤ room (a .c) (length (a .layer .now))
 fits c = omega (arith, c .before .room-of .ensures, c .if1 .left)
 
 replace-requires : tie.Need-replace-requires
@@ -43,7 +44,8 @@ returns-2 : tie.Need-returns-2
 returns-2 c =
     let d = c .before .before .before .before in
     let a = d .before .before .before .args in
-    rw (le-ltb (room (a .c) (length (a .layer .now))) (a .m + 1 - a .k) (fits d)) (refl, c .before .before .replace .ensures)
+    rw (le-ltb (room (a .c) (length (a .layer .now))) (a .m + 1 - a .k) (fits d))
+    (refl, c .before .before .replace .ensures)
 
 pub put-entry-spec : {M : Type 1} → statement M
 put-entry-spec =

@@ -1,9 +1,7 @@
 -- Striking a base row: its changes stand from where the strike lands up to the first entry past the row.
 -- Assumes nothing.
 use borrow.Author.Needs.{needs}
-use native.Mathlib.Omega.{arith}
-use mathlib.Core.Path.{_≡_, sym, ap, _∙_}
-use Prim.Native.Nat.{ℕ, _+_, _-_, _≤_}
+use Prim.Native.Nat.{_+_, _-_, _≤_}
 use Rattle.edit.proofs.Known.{Known, known}
 use Rattle.edit.proofs.Cores.{strike-turn, strike-entered}
 use Rattle.edit.proofs.base.strike_base.Statement.{statement}
@@ -45,7 +43,8 @@ sub-put-entry : tie.Need-sub-put-entry
 sub-put-entry c = turn c .0
 
 put-entry-requires : tie.Need-put-entry-requires
-put-entry-requires c κs = (knows (c .before .before .before .before .before .before .before .before .before) .acc .held, turn (c .before) .1)
+put-entry-requires c κs =
+    (knows (c .before .before .before .before .before .before .before .before .before) .acc .held, turn (c .before) .1)
 
 same-length : tie.Need-same-length
 same-length c = search needs

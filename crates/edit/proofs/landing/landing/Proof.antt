@@ -3,10 +3,9 @@
 use borrow.Author.Needs.{needs}
 use borrow.Author.Tests.{not-true, not-false}
 use native.Mathlib.Omega.{arith}
-use mathlib.Core.Path.{_≡_, refl, sym, ap, _∙_}
-use mathlib.Core.Bool.{Bool, true, not}
+use mathlib.Core.Path.{_≡_, sym, _∙_}
 use mathlib.Core.List.{map}
-use Prim.Native.Nat.{ℕ, _+_, _*_, _-_, _≤_}
+use Prim.Native.Nat.{_+_, _*_, _-_, _≤_}
 use lib.ListN.{length}
 use Rattle.model.specs.Raw.{entryAt, entriesAt, editOf, layerOf}
 use Rattle.model.specs.Edits.{before}
@@ -25,13 +24,19 @@ abbrev μ-loop : tie.MeasureT-loop
 
 loop-holds : tie.Need-loop-holds Inv-loop μ-loop
 loop-holds c =
-    let a = c .before .args in
-    (omega arith, start (a .c) (a .m) (length (a .layer .now)) (c .before .pre .room), begin (a .c) (a .m) (a .layer .now) (aim (a .s) (a .k) (a .v)))
+    let a = c .before .args in (
+      omega arith,
+      start (a .c) (a .m) (length (a .layer .now)) (c .before .pre .room),
+      begin (a .c) (a .m)
+          (a .layer .now) (aim (a .s) (a .k) (a .v)),
+    )
 
-room : (c : tie.In-loop Inv-loop μ-loop) → c .before .loop .at + (c .before .before .before .args .c + 2) ≤ length (c .before .before .before .args .layer .now)
+room : (c : tie.In-loop Inv-loop μ-loop) → c .before .loop .at + (c .before .before .before .args .c + 2) ≤ length
+    (c .before .before .before .args .layer .now)
 room c =
     let a = c .before .before .before .args in
-    here (a .c) (a .m) (c .before .loop .i) (c .before .loop .at) (length (a .layer .now)) (c .loop-test .taken) (c .before .loop .inv .1)
+    here (a .c) (a .m) (c .before .loop .i) (c .before .loop .at) (length (a .layer .now)) (c .loop-test .taken)
+    (c .before .loop .inv .1)
 
 pos-at-requires : tie.Need-pos-at-requires Inv-loop μ-loop
 pos-at-requires c κs = room c
@@ -55,14 +60,16 @@ says c =
     let a = l .before .before .args in
     sym (stands-is (entryAt (a .c) (l .loop .at) (a .layer .now)) (a .s) (a .k) (a .v))
     ∙ sym (c .stands-before .ensures
-    ∙ (λ i. standsBefore (c .before .before .before .pos-at .ensures i) (c .before .before .kind-at .ensures i) (c .before .value-at .ensures i) (a .s) (a .k) (a .v)))
+    ∙ (λ i. standsBefore (c .before .before .before .pos-at .ensures i) (c .before .before .kind-at .ensures i)
+    (c .before .value-at .ensures i) (a .s) (a .k) (a .v)))
 
 returns : tie.Need-returns Inv-loop μ-loop
 returns c =
     let l = c .before .before .before .before .before .before in
     let a = l .before .before .args in
     sym (l .loop .inv .2
-    ∙ landing-stop (a .c) (a .m) (l .loop .i) (l .loop .at) (a .layer .now) (aim (a .s) (a .k) (a .v)) (c .before .before .before .before .before .loop-test .taken)
+    ∙ landing-stop (a .c) (a .m) (l .loop .i) (l .loop .at) (a .layer .now) (aim (a .s) (a .k) (a .v))
+    (c .before .before .before .before .before .loop-test .taken)
     (says (c .before) ∙ not-true _ (c .if1 .taken)))
 
 add-at : tie.Need-add-at Inv-loop μ-loop
@@ -85,14 +92,16 @@ loop-again c =
       omega arith,
       next (a .c) (a .m) (l .loop .i) (l .loop .at) (length (a .layer .now)) (d .loop-test .taken) (l .loop .inv .1),
       l .loop .inv .2
-          ∙ landing-step (a .c) (a .m) (l .loop .i) (l .loop .at) (a .layer .now) (aim (a .s) (a .k) (a .v)) (d .loop-test .taken)
+          ∙ landing-step (a .c) (a .m) (l .loop .i) (l .loop .at) (a .layer .now) (aim (a .s) (a .k) (a .v))
+          (d .loop-test .taken)
           (says (c .before) ∙ not-false _ (c .if1 .left)),
     )
 
 returns-2 : tie.Need-returns-2 Inv-loop μ-loop
 returns-2 c =
     let a = c .before .before .before .args in
-    sym (c .before .loop .inv .2 ∙ landing-end (a .c) (a .m) (c .before .loop .i) (c .before .loop .at) (a .layer .now) (aim (a .s) (a .k) (a .v)) (omega arith))
+    sym (c .before .loop .inv .2 ∙ landing-end (a .c) (a .m) (c .before .loop .i) (c .before .loop .at)
+    (a .layer .now) (aim (a .s) (a .k) (a .v)) (omega arith))
 
 pub landing-spec : {M : Type 1} → statement M
 landing-spec =
