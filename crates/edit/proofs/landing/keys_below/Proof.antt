@@ -2,16 +2,9 @@
 -- Assumes nothing.
 use borrow.Author.Needs.{needs}
 use native.Mathlib.Omega.{arith}
-<<<<<<< HEAD
 use Prim.Native.Nat.{_+_, _-_, _/_, _≤_}
 use lib.ListN.{length}
 use Rattle.order.proofs.Counts.{count-le}
-=======
-use mathlib.Core.Path.{_≡_}
-use mathlib.Core.Logic.{⊎-elim}
-use Prim.Native.Nat.{_+_, _-_, _≤_}
-use lib.ListN.{length, getD, drop}
->>>>>>> main
 use Rattle.model.specs.Fit.{keysBelow}
 use lib.Dec.{ltb}
 use Rattle.edit.proofs.Ranked.{past, within}
@@ -19,12 +12,7 @@ use Rattle.edit.proofs.landing.keys_below.Statement.{statement}
 use Rattle.edit.proofs.landing.keys_below.Tie as tie
 
 abbrev Inv-loop : tie.InvT-loop
-<<<<<<< HEAD
 Inv-loop k keys lo₀ hi₀ lo hi = (lo ≤ keysBelow k keys) × (keysBelow k keys ≤ hi) × (hi ≤ length keys)
-=======
-Inv-loop k keys n₀ i₀ i-end n i = (i ≤ length keys) × (n ≤ i) × (i-end ≡ length keys)
-    × (keysBelow k keys ≡ n + keysBelow k (drop i keys))
->>>>>>> main
 
 abbrev μ-loop : tie.MeasureT-loop
 μ-loop k keys lo₀ hi₀ lo hi = hi - lo
@@ -56,7 +44,6 @@ loop-again : tie.Need-loop-again Inv-loop μ-loop
 loop-again c =
     let l = c .before .before .before in
     let a = l .before .args in
-<<<<<<< HEAD
     let f = past (a .k) (a .keys .now) (l .before .pre) (l .loop .lo + (l .loop .hi - l .loop .lo) / 2) (omega arith) (c .if1 .taken) in
     (omega (arith, f), omega (arith, f), omega arith)
 
@@ -69,13 +56,6 @@ loop-again-2 c =
     let a = l .before .args in
     let f = within (a .k) (a .keys .now) (l .before .pre) (l .loop .lo + (l .loop .hi - l .loop .lo) / 2) (omega arith) (c .if1 .left) in
     (omega (arith, f), omega (arith, f), omega arith)
-=======
-    let i = l .loop .i in
-    let v = getD (a .keys .now) i 0 in
-    let b = below-step (a .k) (a .keys .now) i (omega arith) in
-    ⊎-elim (λ w. omega (arith, b, one-lt v (a .k) (w .0 .taken)))
-    (λ w. omega (arith, b, one-ge v (a .k) (w .0 .left))) (c .if1 .came)
->>>>>>> main
 
 returns : tie.Need-returns Inv-loop μ-loop
 returns c = omega arith
