@@ -24,25 +24,45 @@ use borrow.Author.Needs.{needs}
 use Rattle.combine.proofs.combine.Statement.{statement}
 use Rattle.combine.proofs.combine.Tie as tie
 
--- what stands in the buffer after each answer
-abbrev Same : (s : tie.Start) → Answer → List ℕ
-Same s t = let a = s .args in
-    written t (flat (a .c) (combinedLayer (a .c) (a .keys .now) (a .mr) (a .r .now) (a .mw) (a .w .now))) (a .out .now)
+-- what stands in the third slice after each answer
+abbrev After : (s : tie.Start) → Answer → List ℕ
+After s t =
+    let a = s .args in
+    let M = combinedLayer (a .c) (a .keys .now) (a .mr) (a .r .now) (a .mw) (a .w .now) in
+    written t (flat (a .c) M) (a .out .now)
 
 -- the tests of the arguments
+abbrev argsPass : (s : tie.Start) → Bool
+argsPass s =
+    let a = s .args in
+    argsOk (a .c) (length (a .keys .now)) (a .mr) (length (a .r .now))
+    && argsOk (a .c) (length (a .keys .now)) (a .mw) (length (a .w .now))
+
 tested : (c : tie.After-args-ok2) →
-    let a = c .before .before .before .before .before .before .args in
-    (c .before .args-ok .result && c .args-ok2 .result)
-    ≡ (argsOk (a .c) (length (a .keys .now)) (a .mr) (length (a .r .now)) && argsOk (a .c) (length (a .keys .now)) (a .mw) (length (a .w .now)))
+    (c .before .args-ok .result && c .args-ok2 .result) ≡ argsPass (c .before .before .before .before .before .before)
 tested c =
     let a = c .before .before .before .before .before .before .args in
     ap (λ (t : Bool). t && c .args-ok2 .result) (c .before .args-ok .ensures)
     ∙ ap (λ (t : Bool). argsOk (a .c) (length (a .keys .now)) (a .mr) (length (a .r .now)) && t) (c .args-ok2 .ensures)
 
-passed : (c : tie.Else1) →
-    let a = c .before .before .before .before .before .before .before .args in
-    argsOk (a .c) (length (a .keys .now)) (a .mr) (length (a .r .now)) && argsOk (a .c) (length (a .keys .now)) (a .mw) (length (a .w .now)) ≡ true
+passed : (c : tie.Else1) → argsPass (c .before .before .before .before .before .before .before) ≡ true
 passed c = sym (tested (c .before)) ∙ not-false _ (c .if1 .left)
+
+-- the form of each layer
+lower-done : (c : tie.After-rows) →
+    let a = c .before .before .before .before .before .before .before .before .before .before .args in
+    formAnswer (a .c) (length (a .keys .now)) (a .mr) (a .r .now) ≡ Done (c .rows .given .0 .0)
+lower-done c = sym (c .before .before .check .ensures) ∙ c .rows .given .1
+
+upper-not : (c : tie.After-y) →
+    let a = c .before .before .before .before .before .before .before .before .before .before .before .before .before .before .args in
+    formAnswer (a .c) (c .before .before .before .before .rows .given .0 .0) (a .mw) (a .w .now) ≡ Refused (c .y .given .0 .0)
+upper-not c = sym (c .before .before .check2 .ensures) ∙ c .y .given .1
+
+upper-done : (c : tie.After-enum-told) →
+    let a = c .before .before .before .before .before .before .before .before .before .before .before .before .before .before .args in
+    formAnswer (a .c) (c .before .before .before .before .rows .given .0 .0) (a .mw) (a .w .now) ≡ Done (c .enum-told .given .0 .0)
+upper-done c = sym (c .before .before .check2 .ensures) ∙ c .enum-told .given .1
 
 args-ok-requires : tie.Need-args-ok-requires
 args-ok-requires c κs = search needs
@@ -56,9 +76,10 @@ refused-requires c κs = search needs
 returns : tie.Need-returns
 returns c =
     let s = c .before .before .before .before .before .before .before .before in
-    let a = s .args in (
-      c .refused .ensures ∙ args-refused (a .c) (a .keys .now) (a .mr) (a .r .now) (a .mw) (a .w .now) (length (a .out .now)) (sym (tested (c .before .before)) ∙ not-true _ (c .before .if1 .taken)),
-      ap (Same s) (sym (c .refused .ensures)),
+    let a = s .args in
+    let no = sym (tested (c .before .before)) ∙ not-true _ (c .before .if1 .taken) in (
+      c .refused .ensures ∙ args-refused (a .c) (a .keys .now) (a .mr) (a .r .now) (a .mw) (a .w .now) (length (a .out .now)) no,
+      ap (After s) (sym (c .refused .ensures)),
     )
 
 check-requires : tie.Need-check-requires
@@ -79,11 +100,14 @@ enum-known-y c = search needs
 add-refused : tie.Need-add-refused
 add-refused c =
     let s = c .before .before .before .before .before .before .before .before .before .before .before .before .before .before .before .before in
+    let e = c .before .before .before .before .before .before .before .before .before in
+    let r = c .before .before .before .before .before .before in
+    let y = c .before .before in
     let a = s .args in
-    let y = c .before .before .y .given in
     omega (
       arith,
-      upper-place (a .c) (a .keys .now) (a .mr) (a .r .now) (a .mw) (a .w .now) (length (a .out .now)) (passed (c .before .before .before .before .before .before .before .before .before)) (c .before .before .before .before .before .before .rows .given .0 .0) (sym (c .before .before .before .before .before .before .before .before .check .ensures) ∙ c .before .before .before .before .before .before .rows .given .1) (y .0 .0) (sym (c .before .before .before .before .check2 .ensures) ∙ y .1),
+      upper-place (a .c) (a .keys .now) (a .mr) (a .r .now) (a .mw) (a .w .now) (length (a .out .now)) (passed e)
+          (r .rows .given .0 .0) (lower-done r) (y .y .given .0 .0) (upper-not y),
     )
 
 refused-requires-2 : tie.Need-refused-requires-2
@@ -95,23 +119,35 @@ enum-told c = search needs
 fit-both-requires : tie.Need-fit-both-requires
 fit-both-requires c κs =
     let s = c .before .before .before .before .before .before .before .before .before .before .before .before .before .before .before in
+    let e = c .before .before .before .before .before .before .before .before in
+    let r = c .before .before .before .before .before in
+    let d = c .before in
     let a = s .args in
-    forms (a .c) (a .keys .now) (a .mr) (a .r .now) (a .mw) (a .w .now) (length (a .out .now)) (passed (c .before .before .before .before .before .before .before .before)) (c .before .before .before .before .before .rows .given .0 .0) (sym (c .before .before .before .before .before .before .before .check .ensures) ∙ c .before .before .before .before .before .rows .given .1) (c .before .enum-told .given .0 .0) (sym (c .before .before .before .check2 .ensures) ∙ c .before .enum-told .given .1)
+    forms (a .c) (a .keys .now) (a .mr) (a .r .now) (a .mw) (a .w .now) (length (a .out .now)) (passed e)
+    (r .rows .given .0 .0) (lower-done r) (d .enum-told .given .0 .0) (upper-done d)
 
 returns-2 : tie.Need-returns-2
 returns-2 c =
     let s = c .before .before .before .before .before .before .before .before .before .before .before in
+    let e = c .before .before .before .before in
     let a = s .args in
-    let x = c .before .x .given in
-    (lower-form-refused (a .c) (a .keys .now) (a .mr) (a .r .now) (a .mw) (a .w .now) (length (a .out .now)) (passed (c .before .before .before .before)) (x .0 .0) (sym (c .before .before .before .check .ensures) ∙ x .1), refl)
+    let x = c .before .x .given in (
+      lower-form-refused (a .c) (a .keys .now) (a .mr) (a .r .now) (a .mw) (a .w .now) (length (a .out .now)) (passed e) (x .0 .0)
+          (sym (c .before .before .before .check .ensures) ∙ x .1),
+      refl,
+    )
 
 returns-3 : tie.Need-returns-3
 returns-3 c =
     let s = c .before .before .before .before .before .before .before .before .before .before .before .before .before .before .before .before .before in
-    let a = s .args in
-    let y = c .before .before .before .y .given in (
-      c .refused2 .ensures ∙ upper-form-refused (a .c) (a .keys .now) (a .mr) (a .r .now) (a .mw) (a .w .now) (length (a .out .now)) (passed (c .before .before .before .before .before .before .before .before .before .before)) (c .before .before .before .before .before .before .before .rows .given .0 .0) (sym (c .before .before .before .before .before .before .before .before .before .check .ensures) ∙ c .before .before .before .before .before .before .before .rows .given .1) (y .0 .0) (sym (c .before .before .before .before .before .check2 .ensures) ∙ y .1),
-      ap (Same s) (sym (c .refused2 .ensures)),
+    let e = c .before .before .before .before .before .before .before .before .before .before in
+    let r = c .before .before .before .before .before .before .before in
+    let y = c .before .before .before in
+    let a = s .args in (
+      c .refused2 .ensures
+          ∙ upper-form-refused (a .c) (a .keys .now) (a .mr) (a .r .now) (a .mw) (a .w .now) (length (a .out .now)) (passed e)
+          (r .rows .given .0 .0) (lower-done r) (y .y .given .0 .0) (upper-not y),
+      ap (After s) (sym (c .refused2 .ensures)),
     )
 
 same-length : tie.Need-same-length
@@ -120,9 +156,16 @@ same-length c = search needs
 returns-4 : tie.Need-returns-4
 returns-4 c =
     let s = c .before .before .before .before .before .before .before .before .before .before .before .before .before .before .before .before .before .before in
+    let e = c .before .before .before .before .before .before .before .before .before .before .before in
+    let r = c .before .before .before .before .before .before .before .before in
+    let d = c .before .before .before .before in
     let a = s .args in
-    let f = c .before .before .fit-both in
-    (f .ensures .0 ∙ fits-answer (a .c) (a .keys .now) (a .mr) (a .r .now) (a .mw) (a .w .now) (length (a .out .now)) (passed (c .before .before .before .before .before .before .before .before .before .before .before)) (c .before .before .before .before .before .before .before .before .rows .given .0 .0) (sym (c .before .before .before .before .before .before .before .before .before .before .check .ensures) ∙ c .before .before .before .before .before .before .before .before .rows .given .1) (c .before .before .before .before .enum-told .given .0 .0) (sym (c .before .before .before .before .before .before .check2 .ensures) ∙ c .before .before .before .before .enum-told .given .1), f .ensures .1)
+    let f = c .before .before .fit-both in (
+      f .ensures .0
+          ∙ fits-answer (a .c) (a .keys .now) (a .mr) (a .r .now) (a .mw) (a .w .now) (length (a .out .now)) (passed e)
+          (r .rows .given .0 .0) (lower-done r) (d .enum-told .given .0 .0) (upper-done d),
+      f .ensures .1,
+    )
 
 pub combine-spec : {M : Type 1} → statement M
 combine-spec =

@@ -21,33 +21,46 @@ use borrow.Author.Needs.{needs}
 use Rattle.combine.proofs.fit_both.Statement.{statement}
 use Rattle.combine.proofs.fit_both.Tie as tie
 
--- the arguments of the laws, from the function's entry
-abbrev Same : (s : tie.Start) → Answer → List ℕ
-Same s t = let a = s .args in
-    written t (flat (a .c) (combinedLayer (a .c) (a .keys .now) (a .mr) (a .r .now) (a .mw) (a .w .now))) (a .out .now)
+-- what stands in the third slice after each answer
+abbrev After : (s : tie.Start) → Answer → List ℕ
+After s t =
+    let a = s .args in
+    let M = combinedLayer (a .c) (a .keys .now) (a .mr) (a .r .now) (a .mw) (a .w .now) in
+    written t (flat (a .c) M) (a .out .now)
 
 rising : (c : tie.Else1) → ascending (c .before .before .before .before .before .before .args .keys .now) ≡ true
 rising c = sym (c .before .keys-ascend .ensures) ∙ not-false _ (c .if1 .left)
 
 lower-fits : (c : tie.Else2) →
-    let a = c .before .before .before .before .before .before .before .before .args in a .mr ≤ fitPlace (a .keys .now) (layerOf (a .c) (a .mr) (a .r .now))
+    let a = c .before .before .before .before .before .before .before .before .args in
+    a .mr ≤ fitPlace (a .keys .now) (layerOf (a .c) (a .mr) (a .r .now))
 lower-fits c = omega (arith, c .if2 .left, c .before .fit-place .ensures)
 
 -- the front of the buffer is the key column after the lower layer
-mid-is : (c : tie.After-read-part) →
-    let a = c .before .before .before .before .before .before .before .before .before .before .args in
-    take (c .read-part .result) (c .read-part .last .1 .1 .1 .1 .1 .0) ≡ keysAfter (a .keys .now) (layerOf (a .c) (a .mr) (a .r .now))
-mid-is c =
-    let a = c .before .before .before .before .before .before .before .before .before .before .args in
-    let f = c .read-part in
-    mid-keys (keysAfter (a .keys .now) (layerOf (a .c) (a .mr) (a .r .now))) _ (f .last .1 .1 .1 .1 .1 .0) (f .result) (f .ensures .0) (f .ensures .1)
+module _ (c : tie.After-read-part) where
+  abbrev shown : List ℕ
+  shown = let a = c .before .before .before .before .before .before .before .before .before .before .args in keysAfter (a .keys .now) (layerOf (a .c) (a .mr) (a .r .now))
 
-rows-fit : (c : tie.After-read-part) → c .read-part .result ≤ length (c .read-part .last .1 .1 .1 .1 .1 .0)
-rows-fit c =
-    let a = c .before .before .before .before .before .before .before .before .before .before .args in
-    let f = c .read-part in
-    let t = keysAfter (a .keys .now) (layerOf (a .c) (a .mr) (a .r .now)) in
-    omega (arith, f .ensures .0, ap length (f .ensures .1) ∙ length-append t _)
+  abbrev buffer : List ℕ
+  buffer = c .read-part .last .1 .1 .1 .1 .1 .0
+
+  abbrev mid : List ℕ
+  mid = take (c .read-part .result) buffer
+
+  mid-is : mid ≡ shown
+  mid-is = mid-keys shown _ buffer (c .read-part .result) (c .read-part .ensures .0) (c .read-part .ensures .1)
+
+  rows-fit : c .read-part .result ≤ length buffer
+  rows-fit = omega (arith, c .read-part .ensures .0, ap length (c .read-part .ensures .1) ∙ length-append shown _)
+
+  mid-length : c .read-part .result ≡ length mid
+  mid-length = sym (length-take-le (c .read-part .result) buffer rows-fit)
+
+-- the upper layer fits it
+upper-fits : (c : tie.Else3) →
+    let a = c .before .before .before .before .before .before .before .before .before .before .before .before .before .before .args in
+    a .mw ≤ fitPlace (mid (c .before .before .before .before)) (layerOf (a .c) (a .mw) (a .w .now))
+upper-fits c = omega (arith, c .if3 .left, c .before .fit-place2 .ensures)
 
 keys-ascend-requires : tie.Need-keys-ascend-requires
 keys-ascend-requires c κs = search needs
@@ -58,9 +71,10 @@ refused-requires c κs = search needs
 returns : tie.Need-returns
 returns c =
     let s = c .before .before .before .before .before .before .before in
-    let a = s .args in (
-      c .refused .ensures ∙ keys-refused (a .c) (a .keys .now) (a .mr) (a .r .now) (a .mw) (a .w .now) (length (a .out .now)) (sym (c .before .before .keys-ascend .ensures) ∙ not-true _ (c .before .if1 .taken)),
-      ap (Same s) (sym (c .refused .ensures)),
+    let a = s .args in
+    let no = sym (c .before .before .keys-ascend .ensures) ∙ not-true _ (c .before .if1 .taken) in (
+      c .refused .ensures ∙ keys-refused (a .c) (a .keys .now) (a .mr) (a .r .now) (a .mw) (a .w .now) (length (a .out .now)) no,
+      ap (After s) (sym (c .refused .ensures)),
     )
 
 fit-place-requires : tie.Need-fit-place-requires
@@ -74,8 +88,10 @@ returns-2 c =
     let s = c .before .before .before .before .before .before .before .before .before in
     let a = s .args in
     let f = c .before .before .fit-place in (
-      c .refused2 .ensures ∙ lower-refused (a .c) (a .keys .now) (a .mr) (a .r .now) (a .mw) (a .w .now) (length (a .out .now)) (rising (c .before .before .before)) (f .result) (f .ensures) (c .before .if2 .taken),
-      ap (Same s) (sym (c .refused2 .ensures)),
+      c .refused2 .ensures
+          ∙ lower-refused (a .c) (a .keys .now) (a .mr) (a .r .now) (a .mw) (a .w .now) (length (a .out .now))
+          (rising (c .before .before .before)) (f .result) (f .ensures) (c .before .if2 .taken),
+      ap (After s) (sym (c .refused2 .ensures)),
     )
 
 slice-aggregate-read-part : tie.Need-slice-aggregate-read-part
@@ -88,14 +104,12 @@ array-share-prefix-mid : tie.Need-array-share-prefix-mid
 array-share-prefix-mid c = rows-fit (c .before)
 
 slice-aggregate-fit-place : tie.Need-slice-aggregate-fit-place
-slice-aggregate-fit-place c =
-    let r = c .before .before in
-    sym (length-take-le (r .read-part .result) (r .read-part .last .1 .1 .1 .1 .1 .0) (rows-fit r))
+slice-aggregate-fit-place c = mid-length (c .before .before)
 
 fit-place-requires-2 : tie.Need-fit-place-requires-2
 fit-place-requires-2 c κs =
     let r = c .before .before in
-    upper-form (c .before .before .before .before .before .before .before .before .before .before .before .before .pre) (take (r .read-part .result) (r .read-part .last .1 .1 .1 .1 .1 .0)) (mid-is r)
+    upper-form (c .before .before .before .before .before .before .before .before .before .before .before .before .pre) (mid r) (mid-is r)
 
 add-refused : tie.Need-add-refused
 add-refused c = omega (arith, c .if3 .taken, upper-few (c .before .before .before .before .before .before .before .before .before .before .before .before .before .before .pre))
@@ -108,28 +122,31 @@ returns-3 c =
     let s = c .before .before .before .before .before .before .before .before .before .before .before .before .before .before .before in
     let a = s .args in
     let r = c .before .before .before .before .before in
+    let e = c .before .before .before .before .before .before .before in
     let f = c .before .before .fit-place2 in (
-      c .refused3 .ensures ∙ upper-refused (a .c) (a .keys .now) (a .mr) (a .r .now) (a .mw) (a .w .now) (length (a .out .now)) (rising (c .before .before .before .before .before .before .before .before .before)) (lower-fits (c .before .before .before .before .before .before .before))
-          (take (r .read-part .result) (r .read-part .last .1 .1 .1 .1 .1 .0)) (mid-is r) (f .result) (f .ensures) (c .before .if3 .taken),
-      ap (Same s) (sym (c .refused3 .ensures)),
+      c .refused3 .ensures
+          ∙ upper-refused (a .c) (a .keys .now) (a .mr) (a .r .now) (a .mw) (a .w .now) (length (a .out .now))
+          (rising (e .before .before)) (lower-fits e) (mid r) (mid-is r) (f .result) (f .ensures) (c .before .if3 .taken),
+      ap (After s) (sym (c .refused3 .ensures)),
     )
 
 array-share-prefix-mid-2 : tie.Need-array-share-prefix-mid-2
 array-share-prefix-mid-2 c = rows-fit (c .before .before .before .before)
 
 slice-aggregate-join : tie.Need-slice-aggregate-join
-slice-aggregate-join c =
-    let r = c .before .before .before .before .before in
-    sym (length-take-le (r .read-part .result) (r .read-part .last .1 .1 .1 .1 .1 .0) (rows-fit r))
+slice-aggregate-join c = mid-length (c .before .before .before .before .before)
 
 join-requires : tie.Need-join-requires
 join-requires c κs =
+    let u = c .before .before in
+    let r = c .before .before .before .before .before .before in
+    let e = c .before .before .before .before .before .before .before .before in
     record {
       forms = c .before .before .before .before .before .before .before .before .before .before .before .before .before .before .before .before .pre;
-      rising = rising (c .before .before .before .before .before .before .before .before .before .before);
-      lower = lower-fits (c .before .before .before .before .before .before .before .before);
-      mid = mid-is (c .before .before .before .before .before .before);
-      upper = omega (arith, c .before .before .if3 .left, c .before .before .before .fit-place2 .ensures);
+      rising = rising (e .before .before);
+      lower = lower-fits e;
+      mid = mid-is r;
+      upper = upper-fits u;
     }
 
 same-length : tie.Need-same-length
@@ -137,13 +154,14 @@ same-length c = search needs
 
 returns-4 : tie.Need-returns-4
 returns-4 c =
-    let s = c .before .before .before .before .before .before .before .before .before .before .before .before .before .before .before .before .before .before .before in
-    let a = s .args in
+    let a = c .before .before .before .before .before .before .before .before .before .before .before .before .before .before .before .before .before .before .before .args in
     let r = c .before .before .before .before .before .before .before .before .before in
+    let e = c .before .before .before .before .before .before .before .before .before .before .before in
+    let u = c .before .before .before .before .before in
     let f = c .before .before .join in (
-      f .ensures .0 ∙ join-answer (a .c) (a .keys .now) (a .mr) (a .r .now) (a .mw) (a .w .now) (length (a .out .now)) (rising (c .before .before .before .before .before .before .before .before .before .before .before .before .before)) (lower-fits (c .before .before .before .before .before .before .before .before .before .before .before))
-          (take (r .read-part .result) (r .read-part .last .1 .1 .1 .1 .1 .0)) (mid-is r)
-          (omega (arith, c .before .before .before .before .before .if3 .left, c .before .before .before .before .before .before .fit-place2 .ensures)),
+      f .ensures .0
+          ∙ join-answer (a .c) (a .keys .now) (a .mr) (a .r .now) (a .mw) (a .w .now) (length (a .out .now))
+          (rising (e .before .before)) (lower-fits e) (mid r) (mid-is r) (upper-fits u),
       f .ensures .1,
     )
 

@@ -1,17 +1,20 @@
--- `combine::weave::weave` meets its contract: the invariant says that what is written and what the walk still leaves are the whole.
+-- `combine::weave::weave` meets its contract: the invariant says that what is written and what the walk still leaves are the
+-- whole.
 -- Assumes nothing.
 use borrow.Author.Needs.{needs}
 use native.Mathlib.Omega.{arith}
 use mathlib.Core.Path.{_≡_, sym, _∙_}
 use mathlib.Core.Bool.{true, _&&_}
 use Prim.Native.Nat.{_+_, _*_, _-_, _≤_, _<_}
-use lib.ListN.{length}
+use lib.ListN.{length, getD}
 use lib.Dec.{ltb}
 use borrow.Author.Tests.{ltb-true}
 use Rattle.order.proofs.Tests.{and-l, and-r}
 use Rattle.model.specs.Layer.{rowsAfter}
 use Rattle.model.specs.Raw.{layerOf}
 use Rattle.form.proofs.Accepted.{Accepted, accepted}
+use Rattle.combine.specs.Woven.{wovenLayer}
+use Rattle.combine.specs.Walk.{Woven}
 use Rattle.combine.proofs.Walking.{
   Walking,
   set-out,
@@ -44,25 +47,32 @@ abbrev μ-loop : tie.MeasureT-loop
 μ-loop c keys mid mr r mw w out₀ wide i₀ j₀ m₀ adds₀ strikes₀ out i j m adds strikes = (mr - i) + (mw - j)
 
 -- both layers are in form
-low-at : (s : tie.Start Inv-loop μ-loop) → let a = s .args in Accepted (a .c) (length (a .keys .now)) (a .mr) (a .r .now) (length (a .mid .now))
-low-at s = let a = s .args in accepted (a .c) (length (a .keys .now)) (a .mr) (a .r .now) (length (a .mid .now)) (s .pre .lower)
-
-up-at : (s : tie.Start Inv-loop μ-loop) →
+low-at : (s : tie.Start Inv-loop μ-loop) → let a = s .args in
+    Accepted (a .c) (length (a .keys .now)) (a .mr) (a .r .now) (length (a .mid .now))
+low-at s =
     let a = s .args in
-    Accepted (a .c) (length (a .mid .now)) (a .mw) (a .w .now) (rowsAfter (length (a .mid .now)) (layerOf (a .c) (a .mw) (a .w .now)))
+    accepted (a .c) (length (a .keys .now)) (a .mr) (a .r .now) (length (a .mid .now)) (s .pre .lower)
+
+up-at : (s : tie.Start Inv-loop μ-loop) → let a = s .args in
+    Accepted (a .c) (length (a .mid .now)) (a .mw) (a .w .now)
+    (rowsAfter (length (a .mid .now)) (layerOf (a .c) (a .mw) (a .w .now)))
 up-at s =
     let a = s .args in
-    accepted (a .c) (length (a .mid .now)) (a .mw) (a .w .now) (rowsAfter (length (a .mid .now)) (layerOf (a .c) (a .mw) (a .w .now))) (s .pre .upper)
+    accepted (a .c) (length (a .mid .now)) (a .mw) (a .w .now)
+    (rowsAfter (length (a .mid .now)) (layerOf (a .c) (a .mw) (a .w .now))) (s .pre .upper)
 
+-- within the loop
 module _ (c : tie.In-loop Inv-loop μ-loop) where
   abbrev start : tie.Start Inv-loop μ-loop
   start = c .before .before .before .before .before .before .before
 
-  low : let a = start .args in Accepted (a .c) (length (a .keys .now)) (a .mr) (a .r .now) (length (a .mid .now))
+  low : let a = start .args in
+      Accepted (a .c) (length (a .keys .now)) (a .mr) (a .r .now) (length (a .mid .now))
   low = low-at start
 
   up : let a = start .args in
-      Accepted (a .c) (length (a .mid .now)) (a .mw) (a .w .now) (rowsAfter (length (a .mid .now)) (layerOf (a .c) (a .mw) (a .w .now)))
+      Accepted (a .c) (length (a .mid .now)) (a .mw) (a .w .now)
+      (rowsAfter (length (a .mid .now)) (layerOf (a .c) (a .mw) (a .w .now)))
   up = up-at start
 
   space : let a = start .args in (a .mr + a .mw) * (a .c + 2) ≤ length (a .out .now)
@@ -76,35 +86,69 @@ module _ (c : tie.In-loop Inv-loop μ-loop) where
         ltb-true (l .j) (a .mw) (and-r (ltb (l .i) (a .mr)) (ltb (l .j) (a .mw)) (c .loop-test .taken)),
       )
 
-  few : c .before .loop .strikes ≤ 512
-  few = omega (arith, c .before .loop .inv .few-strikes, inside .0, low .held .entries)
+  -- the next entries, and the place of the one to be written, lie in their slices
+  lower-here : let a = start .args in c .before .loop .i * (a .c + 2) + (a .c + 2) ≤ length (a .r .now)
+  lower-here = lower-room low up space (c .before .loop .inv) (inside .0) (inside .1)
+
+  upper-here : let a = start .args in c .before .loop .j * (a .c + 2) + (a .c + 2) ≤ length (a .w .now)
+  upper-here = upper-room low up space (c .before .loop .inv) (inside .0) (inside .1)
+
+  room-here : let a = start .args in c .before .loop .m * (a .c + 2) + (a .c + 2) ≤ length (c .before .loop .out)
+  room-here = there low up space (c .before .loop .inv) (inside .0) (inside .1)
+
+  out-here : let a = start .args in c .before .loop .m * (a .c + 2) + (a .c + 2) ≤ length (a .out .now)
+  out-here = omega (arith, room-here, c .before .loop .inv .size)
+
+  low-here : let a = start .args in getD (a .w .now) (c .before .loop .j * (a .c + 2)) 0 ≤ 4096
+  low-here = upper-low low up space (c .before .loop .inv) (inside .0) (inside .1)
 
   -- the counters stay small
-  counts : (c .before .loop .i < 512) × (c .before .loop .j < 512) × (c .before .loop .m ≤ 1024) × (c .before .loop .adds ≤ 512)
-      × (c .before .loop .strikes ≤ 512)
+  counts : (c .before .loop .i < 512) × (c .before .loop .j < 512) × (c .before .loop .m ≤ 1024)
+      × (c .before .loop .adds ≤ 512) × (c .before .loop .strikes ≤ 512)
   counts =
       let g = c .before .loop .inv in (
         omega (arith, inside .0, low .held .entries),
         omega (arith, inside .1, up .held .entries),
         omega (arith, g .few, low .held .entries, up .held .entries),
         omega (arith, g .few-adds, inside .0, low .held .entries),
-        few,
+        omega (arith, g .few-strikes, inside .0, low .held .entries),
       )
+
+-- after the loop
+totals : (c : tie.At-loop Inv-loop μ-loop) → let l = c .loop in let a = c .before .before .before .before .before .before .args in
+    (l .i ≤ a .mr) × (l .j ≤ a .mw) × (l .m + ((a .mr - l .i) + (a .mw - l .j)) ≤ 1024)
+totals c =
+    let g = c .loop .inv in
+    let s = c .before .before .before .before .before .before in
+    (g .lower-upto, g .upper-upto, omega (arith, g .few, low-at s .held .entries, up-at s .held .entries))
+
+all-there : (c : tie.After-slice-known6 Inv-loop μ-loop) → let l = c .before .before .before .before .before .loop in
+    let a = c .before .before .before .before .before .before .before .before .before .before .before .args in
+    Woven (a .c)
+    (wovenLayer (a .keys .now) (a .mid .now) (layerOf (a .c) (a .mr) (a .r .now)) (layerOf (a .c) (a .mw) (a .w .now)))
+    (l .m + (a .mr - l .i) + (a .mw - l .j)) (a .out .now) (c .before .before .finish .last .1 .1 .1 .1 .1 .1 .1 .1 .1 .0)
+all-there c =
+    let s = c .before .before .before .before .before .before .before .before .before .before .before in
+    let f = c .before .before .finish in
+    ended (low-at s) (up-at s) (s .pre .room) (c .before .before .before .before .before .loop .inv)
+    (c .before .before .before .before .loop-test .left) (f .last .1 .1 .1 .1 .1 .1 .1 .1 .1 .0) (f .ensures)
 
 add-wide : tie.Need-add-wide Inv-loop μ-loop
 add-wide c = omega (arith, low-at (c .before .before .before .before .before) .held .columns)
 
 loop-holds : tie.Need-loop-holds Inv-loop μ-loop
-loop-holds c = let a = c .before .before .before .before .before .args in set-out (a .c) (a .keys .now) (a .mid .now) (a .mr) (a .r .now) (a .mw) (a .w .now) (a .out .now)
+loop-holds c =
+    let a = c .before .before .before .before .before .args in
+    set-out (a .c) (a .keys .now) (a .mid .now) (a .mr) (a .r .now) (a .mw) (a .w .now) (a .out .now)
 
 mul-at : tie.Need-mul-at Inv-loop μ-loop
-mul-at c = omega (arith, lower-room (low c) (up c) (space c) (c .before .loop .inv) (inside c .0) (inside c .1))
+mul-at c = omega (arith, lower-here c)
 
 mul-bt : tie.Need-mul-bt Inv-loop μ-loop
-mul-bt c = omega (arith, upper-room (low c) (up c) (space c) (c .before .loop .inv) (inside c .0) (inside c .1))
+mul-bt c = omega (arith, upper-here c)
 
 mul-o : tie.Need-mul-o Inv-loop μ-loop
-mul-o c = omega (arith, there (low c) (up c) (space c) (c .before .loop .inv) (inside c .0) (inside c .1), c .before .loop .inv .size, c .before .before .before .before .before .before .before .good)
+mul-o c = omega (arith, out-here c, c .before .before .before .before .before .before .before .good)
 
 next-step-requires : tie.Need-next-step-requires Inv-loop μ-loop
 next-step-requires c κs = (lower-alone (low c) (up c) (space c) (c .before .loop .inv) (inside c .0) (inside c .1), upper-alone (low c) (up c) (space c) (c .before .loop .inv) (inside c .0) (inside c .1))
@@ -113,22 +157,22 @@ enum-told : tie.Need-enum-told Inv-loop μ-loop
 enum-told c = search needs
 
 mul-put-entry : tie.Need-mul-put-entry Inv-loop μ-loop
-mul-put-entry c = omega (arith, lower-room (low (c .before .before .before)) (up (c .before .before .before)) (space (c .before .before .before)) (c .before .before .before .before .loop .inv) (inside (c .before .before .before) .0) (inside (c .before .before .before) .1))
+mul-put-entry c = omega (arith, lower-here (c .before .before .before))
 
 shared-slice-read-put-entry : tie.Need-shared-slice-read-put-entry Inv-loop μ-loop
-shared-slice-read-put-entry c = omega (arith, lower-room (low (c .before .before .before .before)) (up (c .before .before .before .before)) (space (c .before .before .before .before)) (c .before .before .before .before .before .loop .inv) (inside (c .before .before .before .before) .0) (inside (c .before .before .before .before) .1))
+shared-slice-read-put-entry c = omega (arith, lower-here (c .before .before .before .before))
 
 put-entry-requires : tie.Need-put-entry-requires Inv-loop μ-loop
-put-entry-requires c κs = (lower-room (low (c .before .before .before .before .before)) (up (c .before .before .before .before .before)) (space (c .before .before .before .before .before)) (c .before .before .before .before .before .before .loop .inv) (inside (c .before .before .before .before .before) .0) (inside (c .before .before .before .before .before) .1), there (low (c .before .before .before .before .before)) (up (c .before .before .before .before .before)) (space (c .before .before .before .before .before)) (c .before .before .before .before .before .before .loop .inv) (inside (c .before .before .before .before .before) .0) (inside (c .before .before .before .before .before) .1))
+put-entry-requires c κs = let t = c .before .before .before .before .before in (lower-here t, room-here t)
 
 add-one-if : tie.Need-add-one-if Inv-loop μ-loop
-add-one-if c = omega (arith, lower-room (low (c .before .before .before .before .before .before .before .before)) (up (c .before .before .before .before .before .before .before .before)) (space (c .before .before .before .before .before .before .before .before)) (c .before .before .before .before .before .before .before .before .before .loop .inv) (inside (c .before .before .before .before .before .before .before .before) .0) (inside (c .before .before .before .before .before .before .before .before) .1))
+add-one-if c = omega (arith, lower-here (c .before .before .before .before .before .before .before .before))
 
 mul-one-if : tie.Need-mul-one-if Inv-loop μ-loop
-mul-one-if c = omega (arith, lower-room (low (c .before .before .before .before .before .before .before .before)) (up (c .before .before .before .before .before .before .before .before)) (space (c .before .before .before .before .before .before .before .before)) (c .before .before .before .before .before .before .before .before .before .loop .inv) (inside (c .before .before .before .before .before .before .before .before) .0) (inside (c .before .before .before .before .before .before .before .before) .1))
+mul-one-if c = omega (arith, lower-here (c .before .before .before .before .before .before .before .before))
 
 shared-slice-read-one-if : tie.Need-shared-slice-read-one-if Inv-loop μ-loop
-shared-slice-read-one-if c = omega (arith, lower-room (low (c .before .before .before .before .before .before .before .before .before)) (up (c .before .before .before .before .before .before .before .before .before)) (space (c .before .before .before .before .before .before .before .before .before)) (c .before .before .before .before .before .before .before .before .before .before .loop .inv) (inside (c .before .before .before .before .before .before .before .before .before) .0) (inside (c .before .before .before .before .before .before .before .before .before) .1))
+shared-slice-read-one-if c = omega (arith, lower-here (c .before .before .before .before .before .before .before .before .before))
 
 one-if-requires : tie.Need-one-if-requires Inv-loop μ-loop
 one-if-requires c κs = search needs
@@ -137,13 +181,13 @@ add-adds : tie.Need-add-adds Inv-loop μ-loop
 add-adds c = omega (arith, counts (c .before .before .before .before .before .before .before .before .before .before), c .one-if .ensures .1)
 
 add-one-if-2 : tie.Need-add-one-if-2 Inv-loop μ-loop
-add-one-if-2 c = omega (arith, lower-room (low (c .before .before .before .before .before .before .before .before .before .before)) (up (c .before .before .before .before .before .before .before .before .before .before)) (space (c .before .before .before .before .before .before .before .before .before .before)) (c .before .before .before .before .before .before .before .before .before .before .before .loop .inv) (inside (c .before .before .before .before .before .before .before .before .before .before) .0) (inside (c .before .before .before .before .before .before .before .before .before .before) .1))
+add-one-if-2 c = omega (arith, lower-here (c .before .before .before .before .before .before .before .before .before .before))
 
 mul-one-if-2 : tie.Need-mul-one-if-2 Inv-loop μ-loop
-mul-one-if-2 c = omega (arith, lower-room (low (c .before .before .before .before .before .before .before .before .before .before)) (up (c .before .before .before .before .before .before .before .before .before .before)) (space (c .before .before .before .before .before .before .before .before .before .before)) (c .before .before .before .before .before .before .before .before .before .before .before .loop .inv) (inside (c .before .before .before .before .before .before .before .before .before .before) .0) (inside (c .before .before .before .before .before .before .before .before .before .before) .1))
+mul-one-if-2 c = omega (arith, lower-here (c .before .before .before .before .before .before .before .before .before .before))
 
 shared-slice-read-one-if-2 : tie.Need-shared-slice-read-one-if-2 Inv-loop μ-loop
-shared-slice-read-one-if-2 c = omega (arith, lower-room (low (c .before .before .before .before .before .before .before .before .before .before .before)) (up (c .before .before .before .before .before .before .before .before .before .before .before)) (space (c .before .before .before .before .before .before .before .before .before .before .before)) (c .before .before .before .before .before .before .before .before .before .before .before .before .loop .inv) (inside (c .before .before .before .before .before .before .before .before .before .before .before) .0) (inside (c .before .before .before .before .before .before .before .before .before .before .before) .1))
+shared-slice-read-one-if-2 c = omega (arith, lower-here (c .before .before .before .before .before .before .before .before .before .before .before))
 
 one-if-requires-2 : tie.Need-one-if-requires-2 Inv-loop μ-loop
 one-if-requires-2 c κs = search needs
@@ -162,25 +206,28 @@ loop-less c = omega (arith, inside (c .before .before .before .before .before .b
 
 loop-again : tie.Need-loop-again Inv-loop μ-loop
 loop-again c =
-    on-lower (low (c .before .before .before .before .before .before .before .before .before .before .before .before)) (up (c .before .before .before .before .before .before .before .before .before .before .before .before)) (space (c .before .before .before .before .before .before .before .before .before .before .before .before)) (c .before .before .before .before .before .before .before .before .before .before .before .before .before .loop .inv) (inside (c .before .before .before .before .before .before .before .before .before .before .before .before) .0) (inside (c .before .before .before .before .before .before .before .before .before .before .before .before) .1)
+    let t = c .before .before .before .before .before .before .before .before .before .before .before .before in
+    let a = c .before .before .one-if in
+    let s = c .one-if2 in
+    let p = c .before .before .before .before .before .before .put-entry in
+    on-lower (low t) (up t) (space t) (t .before .loop .inv) (inside t .0) (inside t .1)
     (sym (c .before .before .before .before .before .before .before .before .before .enum-told .given .1) ∙ c .before .before .before .before .before .before .before .before .before .before .before .next-step .ensures)
-    (c .before .before .one-if .result) (c .one-if2 .result) (c .before .before .before .before .before .before .put-entry .last .1 .1 .1 .1 .0)
-    (c .before .before .one-if .ensures .0) (c .before .before .one-if .ensures .1) (c .one-if2 .ensures .0) (c .one-if2 .ensures .1) (c .before .before .before .before .before .before .put-entry .ensures)
+    (a .result) (s .result) (p .last .1 .1 .1 .1 .0) (a .ensures .0) (a .ensures .1) (s .ensures .0) (s .ensures .1) (p .ensures)
 
 enum-told-2 : tie.Need-enum-told-2 Inv-loop μ-loop
 enum-told-2 c = search needs
 
 mul-rebase : tie.Need-mul-rebase Inv-loop μ-loop
-mul-rebase c = omega (arith, upper-room (low (c .before .before .before)) (up (c .before .before .before)) (space (c .before .before .before)) (c .before .before .before .before .loop .inv) (inside (c .before .before .before) .0) (inside (c .before .before .before) .1))
+mul-rebase c = omega (arith, upper-here (c .before .before .before))
 
 shared-slice-read-rebase : tie.Need-shared-slice-read-rebase Inv-loop μ-loop
-shared-slice-read-rebase c = omega (arith, upper-room (low (c .before .before .before .before)) (up (c .before .before .before .before)) (space (c .before .before .before .before)) (c .before .before .before .before .before .loop .inv) (inside (c .before .before .before .before) .0) (inside (c .before .before .before .before) .1))
+shared-slice-read-rebase c = omega (arith, upper-here (c .before .before .before .before))
 
 rebase-requires : tie.Need-rebase-requires Inv-loop μ-loop
-rebase-requires c κs = (upper-low (low (c .before .before .before .before)) (up (c .before .before .before .before)) (space (c .before .before .before .before)) (c .before .before .before .before .before .loop .inv) (inside (c .before .before .before .before) .0) (inside (c .before .before .before .before) .1), few (c .before .before .before .before))
+rebase-requires c κs = let t = c .before .before .before .before in (low-here t, counts t .4)
 
 put-entry-requires-2 : tie.Need-put-entry-requires-2 Inv-loop μ-loop
-put-entry-requires-2 c κs = (upper-room (low (c .before .before .before .before .before .before)) (up (c .before .before .before .before .before .before)) (space (c .before .before .before .before .before .before)) (c .before .before .before .before .before .before .before .loop .inv) (inside (c .before .before .before .before .before .before) .0) (inside (c .before .before .before .before .before .before) .1), there (low (c .before .before .before .before .before .before)) (up (c .before .before .before .before .before .before)) (space (c .before .before .before .before .before .before)) (c .before .before .before .before .before .before .before .loop .inv) (inside (c .before .before .before .before .before .before) .0) (inside (c .before .before .before .before .before .before) .1))
+put-entry-requires-2 c κs = let t = c .before .before .before .before .before .before in (upper-here t, room-here t)
 
 add-j : tie.Need-add-j Inv-loop μ-loop
 add-j c = omega (arith, counts (c .before .before .before .before .before .before .before .before .before))
@@ -193,21 +240,24 @@ loop-less-2 c = omega (arith, inside (c .before .before .before .before .before 
 
 loop-again-2 : tie.Need-loop-again-2 Inv-loop μ-loop
 loop-again-2 c =
-    on-upper (low (c .before .before .before .before .before .before .before .before .before)) (up (c .before .before .before .before .before .before .before .before .before)) (space (c .before .before .before .before .before .before .before .before .before)) (c .before .before .before .before .before .before .before .before .before .before .loop .inv) (inside (c .before .before .before .before .before .before .before .before .before) .0) (inside (c .before .before .before .before .before .before .before .before .before) .1)
+    let t = c .before .before .before .before .before .before .before .before .before in
+    let b = c .before .before .before .before .rebase in
+    let p = c .before .before .put-entry2 in
+    on-upper (low t) (up t) (space t) (t .before .loop .inv) (inside t .0) (inside t .1)
     (sym (c .before .before .before .before .before .before .enum-told2 .given .1) ∙ c .before .before .before .before .before .before .before .before .next-step .ensures)
-    (c .before .before .before .before .rebase .result) (c .before .before .put-entry2 .last .1 .1 .1 .1 .0) (c .before .before .before .before .rebase .ensures) (c .before .before .put-entry2 .ensures)
+    (b .result) (p .last .1 .1 .1 .1 .0) (b .ensures) (p .ensures)
 
 enum-told-3 : tie.Need-enum-told-3 Inv-loop μ-loop
 enum-told-3 c = search needs
 
 mul-put-entry-2 : tie.Need-mul-put-entry-2 Inv-loop μ-loop
-mul-put-entry-2 c = omega (arith, lower-room (low (c .before .before .before)) (up (c .before .before .before)) (space (c .before .before .before)) (c .before .before .before .before .loop .inv) (inside (c .before .before .before) .0) (inside (c .before .before .before) .1))
+mul-put-entry-2 c = omega (arith, lower-here (c .before .before .before))
 
 shared-slice-read-put-entry-2 : tie.Need-shared-slice-read-put-entry-2 Inv-loop μ-loop
-shared-slice-read-put-entry-2 c = omega (arith, lower-room (low (c .before .before .before .before)) (up (c .before .before .before .before)) (space (c .before .before .before .before)) (c .before .before .before .before .before .loop .inv) (inside (c .before .before .before .before) .0) (inside (c .before .before .before .before) .1))
+shared-slice-read-put-entry-2 c = omega (arith, lower-here (c .before .before .before .before))
 
 put-entry-requires-3 : tie.Need-put-entry-requires-3 Inv-loop μ-loop
-put-entry-requires-3 c κs = (upper-room (low (c .before .before .before .before .before)) (up (c .before .before .before .before .before)) (space (c .before .before .before .before .before)) (c .before .before .before .before .before .before .loop .inv) (inside (c .before .before .before .before .before) .0) (inside (c .before .before .before .before .before) .1), there (low (c .before .before .before .before .before)) (up (c .before .before .before .before .before)) (space (c .before .before .before .before .before)) (c .before .before .before .before .before .before .loop .inv) (inside (c .before .before .before .before .before) .0) (inside (c .before .before .before .before .before) .1))
+put-entry-requires-3 c κs = let t = c .before .before .before .before .before in (upper-here t, room-here t)
 
 add-j-2 : tie.Need-add-j-2 Inv-loop μ-loop
 add-j-2 c = omega (arith, counts (c .before .before .before .before .before .before .before .before))
@@ -220,9 +270,11 @@ loop-less-3 c = omega (arith, inside (c .before .before .before .before .before 
 
 loop-again-3 : tie.Need-loop-again-3 Inv-loop μ-loop
 loop-again-3 c =
-    on-here (low (c .before .before .before .before .before .before .before .before)) (up (c .before .before .before .before .before .before .before .before)) (space (c .before .before .before .before .before .before .before .before)) (c .before .before .before .before .before .before .before .before .before .loop .inv) (inside (c .before .before .before .before .before .before .before .before) .0) (inside (c .before .before .before .before .before .before .before .before) .1)
+    let t = c .before .before .before .before .before .before .before .before in
+    let p = c .before .before .put-entry3 in
+    on-here (low t) (up t) (space t) (t .before .loop .inv) (inside t .0) (inside t .1)
     (sym (c .before .before .before .before .before .enum-told3 .given .1) ∙ c .before .before .before .before .before .before .before .next-step .ensures)
-    (c .before .before .put-entry3 .last .1 .1 .1 .1 .0) (c .before .before .put-entry3 .ensures)
+    (p .last .1 .1 .1 .1 .0) (p .ensures)
 
 enum-told-4 : tie.Need-enum-told-4 Inv-loop μ-loop
 enum-told-4 c = search needs
@@ -234,7 +286,10 @@ loop-less-4 : tie.Need-loop-less-4 Inv-loop μ-loop
 loop-less-4 c = omega (arith, inside (c .before .before .before))
 
 loop-again-4 : tie.Need-loop-again-4 Inv-loop μ-loop
-loop-again-4 c = on-drop (low (c .before .before .before)) (up (c .before .before .before)) (space (c .before .before .before)) (c .before .before .before .before .loop .inv) (inside (c .before .before .before) .0) (inside (c .before .before .before) .1) (sym (c .enum-told4 .given .1) ∙ c .before .before .next-step .ensures)
+loop-again-4 c =
+    let t = c .before .before .before in
+    on-drop (low t) (up t) (space t) (t .before .loop .inv) (inside t .0) (inside t .1)
+    (sym (c .enum-told4 .given .1) ∙ c .before .before .next-step .ensures)
 
 enum-told-5 : tie.Need-enum-told-5 Inv-loop μ-loop
 enum-told-5 c = search needs
@@ -252,7 +307,10 @@ loop-less-5 : tie.Need-loop-less-5 Inv-loop μ-loop
 loop-less-5 c = omega (arith, inside (c .before .before .before))
 
 loop-again-5 : tie.Need-loop-again-5 Inv-loop μ-loop
-loop-again-5 c = on-vanish (low (c .before .before .before)) (up (c .before .before .before)) (space (c .before .before .before)) (c .before .before .before .before .loop .inv) (inside (c .before .before .before) .0) (inside (c .before .before .before) .1) (sym (c .enum-told5 .given .1) ∙ c .before .before .next-step .ensures)
+loop-again-5 c =
+    let t = c .before .before .before in
+    on-vanish (low t) (up t) (space t) (t .before .loop .inv) (inside t .0) (inside t .1)
+    (sym (c .enum-told5 .given .1) ∙ c .before .before .next-step .ensures)
 
 enum-told-6 : tie.Need-enum-told-6 Inv-loop μ-loop
 enum-told-6 c = search needs
@@ -261,10 +319,19 @@ sub-put-patched : tie.Need-sub-put-patched Inv-loop μ-loop
 sub-put-patched c = omega (arith, c .before .before .before .before .loop .inv .upper-upto)
 
 put-patched-requires : tie.Need-put-patched-requires Inv-loop μ-loop
-put-patched-requires c κs = (lower-room (low (c .before .before .before .before)) (up (c .before .before .before .before)) (space (c .before .before .before .before)) (c .before .before .before .before .before .loop .inv) (inside (c .before .before .before .before) .0) (inside (c .before .before .before .before) .1), upper-room (low (c .before .before .before .before)) (up (c .before .before .before .before)) (space (c .before .before .before .before)) (c .before .before .before .before .before .loop .inv) (inside (c .before .before .before .before) .0) (inside (c .before .before .before .before) .1), there (low (c .before .before .before .before)) (up (c .before .before .before .before)) (space (c .before .before .before .before)) (c .before .before .before .before .before .loop .inv) (inside (c .before .before .before .before) .0) (inside (c .before .before .before .before) .1), runs (low (c .before .before .before .before)) (up (c .before .before .before .before)) (space (c .before .before .before .before)) (c .before .before .before .before .before .loop .inv) (inside (c .before .before .before .before) .0) (inside (c .before .before .before .before) .1))
+put-patched-requires c κs =
+    let t = c .before .before .before .before in
+    (lower-here t, upper-here t, room-here t, runs (low t) (up t) (space t) (t .before .loop .inv) (inside t .0) (inside t .1))
 
 add-j-4 : tie.Need-add-j-4 Inv-loop μ-loop
-add-j-4 c = omega (arith, counts (c .before .before .before .before .before .before .before), ahead (low (c .before .before .before .before .before .before .before)) (up (c .before .before .before .before .before .before .before)) (space (c .before .before .before .before .before .before .before)) (c .before .before .before .before .before .before .before .before .loop .inv) (inside (c .before .before .before .before .before .before .before) .0) (inside (c .before .before .before .before .before .before .before) .1), c .before .before .put-patched .ensures .0)
+add-j-4 c =
+    let t = c .before .before .before .before .before .before .before in
+    omega (
+      arith,
+      counts t,
+      ahead (low t) (up t) (space t) (t .before .loop .inv) (inside t .0) (inside t .1),
+      c .before .before .put-patched .ensures .0,
+    )
 
 add-adds-3 : tie.Need-add-adds-3 Inv-loop μ-loop
 add-adds-3 c = omega (arith, counts (c .before .before .before .before .before .before .before))
@@ -280,33 +347,43 @@ loop-less-6 c = omega (arith, inside (c .before .before .before .before .before 
 
 loop-again-6 : tie.Need-loop-again-6 Inv-loop μ-loop
 loop-again-6 c =
-    on-patch (low (c .before .before .before .before .before .before .before)) (up (c .before .before .before .before .before .before .before)) (space (c .before .before .before .before .before .before .before)) (c .before .before .before .before .before .before .before .before .loop .inv) (inside (c .before .before .before .before .before .before .before) .0) (inside (c .before .before .before .before .before .before .before) .1)
+    let t = c .before .before .before .before .before .before .before in
+    let p = c .before .before .put-patched in
+    on-patch (low t) (up t) (space t) (t .before .loop .inv) (inside t .0) (inside t .1)
     (sym (c .before .before .before .before .enum-told6 .given .1) ∙ c .before .before .before .before .before .before .next-step .ensures)
-    (c .before .before .put-patched .result) (c .before .before .put-patched .last .1 .1 .1 .1 .1 .1 .0) (c .before .before .put-patched .ensures .0) (c .before .before .put-patched .ensures .1)
+    (p .result) (p .last .1 .1 .1 .1 .1 .1 .0) (p .ensures .0) (p .ensures .1)
 
 mul-finish : tie.Need-mul-finish Inv-loop μ-loop
-mul-finish c = omega (arith, offset (low-at (c .before .before .before .before .before .before .before .before)) (up-at (c .before .before .before .before .before .before .before .before)) (c .before .before .before .before .before .before .before .before .pre .room) (c .before .before .loop .inv) (c .before .before .loop .m) (omega (arith, c .before .before .loop .inv .few)), c .before .before .loop .inv .size, c .before .before .before .before .before .before .before .before .good)
+mul-finish c =
+    let l = c .before .before .loop in
+    let s = c .before .before .before .before .before .before .before .before in
+    omega (
+      arith,
+      offset (low-at s) (up-at s) (s .pre .room) (l .inv) (l .m) (omega (arith, l .inv .few)),
+      l .inv .size,
+      s .good,
+    )
 
 finish-requires : tie.Need-finish-requires Inv-loop μ-loop
-finish-requires c κs = rests (low-at (c .before .before .before .before .before .before .before .before)) (up-at (c .before .before .before .before .before .before .before .before)) (c .before .before .before .before .before .before .before .before .pre .room) (c .before .before .loop .inv)
+finish-requires c κs = let s = c .before .before .before .before .before .before .before .before in rests (low-at s) (up-at s) (s .pre .room) (c .before .before .loop .inv)
 
 sub-result : tie.Need-sub-result Inv-loop μ-loop
-sub-result c = omega (arith, c .before .before .before .before .before .loop .inv .few, c .before .before .before .before .before .loop .inv .lower-upto, c .before .before .before .before .before .loop .inv .upper-upto, low-at (c .before .before .before .before .before .before .before .before .before .before .before) .held .entries, up-at (c .before .before .before .before .before .before .before .before .before .before .before) .held .entries)
+sub-result c = omega (arith, totals (c .before .before .before .before .before))
 
 add-result : tie.Need-add-result Inv-loop μ-loop
-add-result c = omega (arith, c .before .before .before .before .before .loop .inv .few, c .before .before .before .before .before .loop .inv .lower-upto, c .before .before .before .before .before .loop .inv .upper-upto, low-at (c .before .before .before .before .before .before .before .before .before .before .before) .held .entries, up-at (c .before .before .before .before .before .before .before .before .before .before .before) .held .entries)
+add-result c = omega (arith, totals (c .before .before .before .before .before))
 
 sub-result-2 : tie.Need-sub-result-2 Inv-loop μ-loop
-sub-result-2 c = omega (arith, c .before .before .before .before .before .loop .inv .few, c .before .before .before .before .before .loop .inv .lower-upto, c .before .before .before .before .before .loop .inv .upper-upto, low-at (c .before .before .before .before .before .before .before .before .before .before .before) .held .entries, up-at (c .before .before .before .before .before .before .before .before .before .before .before) .held .entries)
+sub-result-2 c = omega (arith, totals (c .before .before .before .before .before))
 
 add-result-2 : tie.Need-add-result-2 Inv-loop μ-loop
-add-result-2 c = omega (arith, c .before .before .before .before .before .loop .inv .few, c .before .before .before .before .before .loop .inv .lower-upto, c .before .before .before .before .before .loop .inv .upper-upto, low-at (c .before .before .before .before .before .before .before .before .before .before .before) .held .entries, up-at (c .before .before .before .before .before .before .before .before .before .before .before) .held .entries)
+add-result-2 c = omega (arith, totals (c .before .before .before .before .before))
 
 same-length : tie.Need-same-length Inv-loop μ-loop
-same-length c = (ended (low-at (c .before .before .before .before .before .before .before .before .before .before .before)) (up-at (c .before .before .before .before .before .before .before .before .before .before .before)) (c .before .before .before .before .before .before .before .before .before .before .before .pre .room) (c .before .before .before .before .before .loop .inv) (c .before .before .before .before .loop-test .left) (c .before .before .finish .last .1 .1 .1 .1 .1 .1 .1 .1 .1 .0) (c .before .before .finish .ensures)) .size
+same-length c = all-there c .size
 
 returns : tie.Need-returns Inv-loop μ-loop
-returns c = ended (low-at (c .before .before .before .before .before .before .before .before .before .before .before)) (up-at (c .before .before .before .before .before .before .before .before .before .before .before)) (c .before .before .before .before .before .before .before .before .before .before .before .pre .room) (c .before .before .before .before .before .loop .inv) (c .before .before .before .before .loop-test .left) (c .before .before .finish .last .1 .1 .1 .1 .1 .1 .1 .1 .1 .0) (c .before .before .finish .ensures)
+returns c = all-there c
 
 pub weave-spec : {M : Type 1} → statement M
 weave-spec =
