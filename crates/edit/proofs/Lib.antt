@@ -12,3 +12,4 @@ pub mod Added
 pub mod Accepting
 pub mod Laws
 pub mod Unique
+pub mod Ranked

@@ -2,7 +2,9 @@
 use model::Entry;
 ghost use mathlib.Core.Path.{_≡_};
 ghost use Prim.Native.Nat.{_≤_};
+ghost use mathlib.Core.Bool.{true};
 ghost use lib.ListN.{length};
+ghost use Rattle.order.specs.Lists.{ascending};
 ghost use Rattle.model.specs.Raw.{Held, layerOf};
 ghost use Rattle.model.specs.Fit.{keysBelow};
 ghost use Rattle.edit.specs.Landing.{aim, standsBefore, landing};
@@ -36,15 +38,20 @@ pub fn landing(c: usize, m: usize, layer: &[u64], s: u64, k: u64, v: u64) -> usi
     i
 }
 
-// How many of the keys lie below k.
+// How many of the keys, which ascend, lie below k: at least lo and at most hi, halved until they meet.
 pub fn keys_below(k: u64, keys: &[u64]) -> usize
+    requires { ⌜ ascending (now keys) ≡ true ⌝ }
     ensures { λ r. ⌜ r ≡ keysBelow k (now (keys .entry)) ⌝ }
 {
-    let mut n: usize = 0;
-    for i in 0..keys.len() {
-        if keys[i] < k {
-            n += 1;
+    let mut lo: usize = 0;
+    let mut hi = keys.len();
+    while lo < hi {
+        let mid = lo + (hi - lo) / 2;
+        if keys[mid] < k {
+            lo = mid + 1;
+        } else {
+            hi = mid;
         }
     }
-    n
+    lo
 }

@@ -11,3 +11,4 @@ pub mod Looks
 pub mod Ahead
 pub mod Fitting
 pub mod Unique
+pub mod Rising

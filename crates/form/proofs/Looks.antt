@@ -1,16 +1,13 @@
--- One step and the end of each loop of the fit check: over the keys, ahead for a strike, over the entries.
+-- One step and the end of each loop of the fit check: ahead for a strike, over the entries.
 -- Assumes nothing.
 use Prim.Native.Nat.{ℕ, zero, suc, _+_, _-_, _≤_, _<_}
-use native.Mathlib.Numerals.{add-one}
 use native.Mathlib.Omega.{arith}
 use mathlib.Core.Path.{_≡_, refl, ap, _∙_}
 use mathlib.Core.Bool.{Bool, true, false, _&&_, _||_, or-false}
 use mathlib.Core.List.{List, [], _∷_}
-use lib.ListN.{length, getD, drop, drop-of-length-le}
-use lib.Seq.{drop-cons}
+use lib.ListN.{length, getD}
 use lib.Dec.{leb, ltb, eqb}
 use borrow.Author.Tests.{le-leb, lt-leb, le-ltb, eq-eqb, ne-eqb, leb-true, ltb-true}
-use Rattle.order.specs.Lists.{rising, ascending}
 use Rattle.order.proofs.Tests.{and-l}
 use Rattle.model.specs.declared.Entry.{Entry}
 use Rattle.model.specs.Form.{sound}
@@ -18,21 +15,6 @@ use Rattle.model.specs.Raw.{ADD, STRIKE, entryAt, entriesAt, editOf}
 use Rattle.model.specs.Fit.{above}
 use Rattle.model.proofs.Raw.{value-at, rest-step, rest-end}
 use Rattle.form.specs.Suit.{first, struckAhead, underAhead, suitsAhead, risesKind, fitFrom}
-
--- the keys from number i on, after the one before it
-pub rising-start : (K : List ℕ) → ascending K ≡ rising (getD K (1 - 1) 0) (drop 1 K)
-rising-start [] = refl
-rising-start (k ∷ K) = refl
-
-pub rising-step : (K : List ℕ) (i : ℕ) → i < length K
-    → rising (getD K (i - 1) 0) (drop i K)
-    ≡ (ltb (getD K (i - 1) 0) (getD K i 0) && rising (getD K ((i + 1) - 1) 0) (drop (i + 1) K))
-rising-step K i h =
-    let e : (i + 1) - 1 ≡ i = omega arith in
-    rw (e, add-one, drop-cons K i 0)
-
-pub rising-end : (K : List ℕ) (i k : ℕ) → length K ≤ i → rising k (drop i K) ≡ true
-rising-end K i k h = rw (drop-of-length-le K {i = i} h)
 
 -- K[s-1] < k
 pub above-last : (K : List ℕ) (s k : ℕ) → (s ≡ 0 → ⊥) → above K s k ≡ ltb (getD K (s - 1) 0) k

@@ -1,3 +1,4 @@
 pub mod InForm
 pub mod Scan
 pub mod Suit
+pub mod Rising

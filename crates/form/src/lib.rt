@@ -16,6 +16,8 @@ ghost use Rattle.model.specs.Form.{argsOk};
 ghost use Rattle.model.specs.Fit.{fitPlace};
 ghost use Rattle.model.specs.Calls.{formAnswer, fitAnswer};
 ghost use Rattle.form.specs.InForm.{InForm};
+ghost use Rattle.form.specs.Rising.{ascendFrom};
+ghost use mathlib.Core.Bool.{_&&_};
 
 // The arguments pass refusal 1: c columns, n rows, m entries in a slice of len numbers.
 pub fn args_ok(c: usize, n: usize, m: usize, len: usize) -> bool
@@ -80,18 +82,49 @@ pub fn check(c: usize, n: usize, m: usize, layer: &[u64]) -> Answer
     Answer::Done(shown - s.strikes)
 }
 
-// The keys are strictly ascending.
-pub fn keys_ascend(keys: &[u64]) -> bool
-    ensures { λ r. ⌜ r ≡ ascending (now (keys .entry)) ⌝ }
+// Five keys from number i on ascend: all from there on do if those from the last of the five on do.
+fn five_ascend(keys: &[u64], i: usize) -> bool
+    requires { ⌜ i + 4 < length (now keys) ⌝ }
+    ensures { λ r. ⌜ ascendFrom (now (keys .entry)) i ≡ r && ascendFrom (now (keys .entry)) (i + 4) ⌝ }
 {
-    let mut i: usize = 1;
-    while i < keys.len() {
-        if keys[i] <= keys[i - 1] {
+    let a = keys[i];
+    let b = keys[i + 1];
+    let d = keys[i + 2];
+    let e = keys[i + 3];
+    let f = keys[i + 4];
+    (a < b) & ((b < d) & ((d < e) & (e < f)))
+}
+
+// The keys from number `from` on ascend.
+fn ascend_from(keys: &[u64], from: usize) -> bool
+    requires { ⌜ from < length (now keys) ⌝ }
+    ensures { λ r. ⌜ r ≡ ascendFrom (now (keys .entry)) from ⌝ }
+{
+    let mut i = from;
+    while 1 < keys.len() - i {
+        if keys[i + 1] <= keys[i] {
             return false;
         }
         i += 1;
     }
     true
+}
+
+// The keys are strictly ascending: looked at by fours, then the last few one by one.
+pub fn keys_ascend(keys: &[u64]) -> bool
+    ensures { λ r. ⌜ r ≡ ascending (now (keys .entry)) ⌝ }
+{
+    if keys.len() == 0 {
+        return true;
+    }
+    let mut i: usize = 0;
+    while 4 < keys.len() - i {
+        if !five_ascend(keys, i) {
+            return false;
+        }
+        i += 4;
+    }
+    ascend_from(keys, i)
 }
 
 // The place of the least entry of a layer in form that does not fit the keys, or m.

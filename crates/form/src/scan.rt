@@ -26,8 +26,11 @@ fn one_if(b: bool) -> usize
 fn follows(p: u64, q: u64, s: u64, k: u64) -> bool
     ensures { λ r. ⌜ r ≡ followsKind p q s k ⌝ }
 {
+    if p < s {
+        return true;
+    }
     let rising = (k != Entry::ADD) & ((k != Entry::STRIKE) & (q < k));
-    (p < s) | ((p == s) & ((q == Entry::ADD) | ((q != Entry::STRIKE) & rising)))
+    (p == s) & ((q == Entry::ADD) | ((q != Entry::STRIKE) & rising))
 }
 
 // The values after the first are all zero.

@@ -31,11 +31,16 @@ pub fn head_at(c: usize, at: usize, layer: &[u64]) -> Head
 pub fn stands_before(d: Head, e: Head) -> bool
     ensures { λ r. ⌜ r ≡ before (seen d) (seen e) ⌝ }
 {
+    if d.pos < e.pos {
+        return true;
+    }
+    if d.pos != e.pos {
+        return false;
+    }
     let adds = (e.kind != Entry::ADD) | (d.first < e.first);
     let changes = (d.kind != Entry::STRIKE)
         & ((e.kind != Entry::ADD) & ((e.kind != Entry::STRIKE) & (d.kind < e.kind)));
-    let level = ((d.kind == Entry::ADD) & adds) | ((d.kind != Entry::ADD) & changes);
-    (d.pos < e.pos) | ((d.pos == e.pos) & level)
+    ((d.kind == Entry::ADD) & adds) | ((d.kind != Entry::ADD) & changes)
 }
 
 // The rule that two entries of one base meet: 1 a struck row, 2 a cell that both change, 3 a key that both add, 0 none.

@@ -1,26 +1,32 @@
--- Counting the keys below k: those counted, and those from number i on, are all of them.
+-- `edit::landing::keys_below` meets its contract: the number of keys below k stays between lo and hi.
 -- Assumes nothing.
 use borrow.Author.Needs.{needs}
 use native.Mathlib.Omega.{arith}
-use mathlib.Core.Path.{_≡_}
-use mathlib.Core.Logic.{⊎-elim}
-use Prim.Native.Nat.{_+_, _-_, _≤_}
-use lib.ListN.{length, getD, drop}
+use Prim.Native.Nat.{_+_, _-_, _/_, _≤_}
+use lib.ListN.{length}
+use Rattle.order.proofs.Counts.{count-le}
 use Rattle.model.specs.Fit.{keysBelow}
-use Rattle.order.proofs.Tests.{one-lt, one-ge}
-use Rattle.edit.proofs.Landed.{below-step, below-end}
+use lib.Dec.{ltb}
+use Rattle.edit.proofs.Ranked.{past, within}
 use Rattle.edit.proofs.landing.keys_below.Statement.{statement}
 use Rattle.edit.proofs.landing.keys_below.Tie as tie
 
 abbrev Inv-loop : tie.InvT-loop
-Inv-loop k keys n₀ i₀ i-end n i = (i ≤ length keys) × (n ≤ i) × (i-end ≡ length keys)
-    × (keysBelow k keys ≡ n + keysBelow k (drop i keys))
+Inv-loop k keys lo₀ hi₀ lo hi = (lo ≤ keysBelow k keys) × (keysBelow k keys ≤ hi) × (hi ≤ length keys)
 
 abbrev μ-loop : tie.MeasureT-loop
-μ-loop k keys n₀ i₀ i-end n i = length keys - i
+μ-loop k keys lo₀ hi₀ lo hi = hi - lo
 
 loop-holds : tie.Need-loop-holds Inv-loop μ-loop
-loop-holds c = search needs
+loop-holds c =
+    let a = c .args in
+    (omega arith, count-le (λ l. ltb l (a .k)) (a .keys .now), omega arith)
+
+sub-mid : tie.Need-sub-mid Inv-loop μ-loop
+sub-mid c = search needs
+
+add-mid : tie.Need-add-mid Inv-loop μ-loop
+add-mid c = search needs
 
 mul-if1 : tie.Need-mul-if1 Inv-loop μ-loop
 mul-if1 c = search needs
@@ -28,11 +34,8 @@ mul-if1 c = search needs
 shared-slice-read-if1 : tie.Need-shared-slice-read-if1 Inv-loop μ-loop
 shared-slice-read-if1 c = search needs
 
-add-n : tie.Need-add-n Inv-loop μ-loop
-add-n c = search needs
-
-add-i : tie.Need-add-i Inv-loop μ-loop
-add-i c = search needs
+add-lo : tie.Need-add-lo Inv-loop μ-loop
+add-lo c = search needs
 
 loop-less : tie.Need-loop-less Inv-loop μ-loop
 loop-less c = search needs
@@ -41,16 +44,21 @@ loop-again : tie.Need-loop-again Inv-loop μ-loop
 loop-again c =
     let l = c .before .before .before in
     let a = l .before .args in
-    let i = l .loop .i in
-    let v = getD (a .keys .now) i 0 in
-    let b = below-step (a .k) (a .keys .now) i (omega arith) in
-    ⊎-elim (λ w. omega (arith, b, one-lt v (a .k) (w .0 .taken)))
-    (λ w. omega (arith, b, one-ge v (a .k) (w .0 .left))) (c .if1 .came)
+    let f = past (a .k) (a .keys .now) (l .before .pre) (l .loop .lo + (l .loop .hi - l .loop .lo) / 2) (omega arith) (c .if1 .taken) in
+    (omega (arith, f), omega (arith, f), omega arith)
+
+loop-less-2 : tie.Need-loop-less-2 Inv-loop μ-loop
+loop-less-2 c = search needs
+
+loop-again-2 : tie.Need-loop-again-2 Inv-loop μ-loop
+loop-again-2 c =
+    let l = c .before .before .before in
+    let a = l .before .args in
+    let f = within (a .k) (a .keys .now) (l .before .pre) (l .loop .lo + (l .loop .hi - l .loop .lo) / 2) (omega arith) (c .if1 .left) in
+    (omega (arith, f), omega (arith, f), omega arith)
 
 returns : tie.Need-returns Inv-loop μ-loop
-returns c =
-    let a = c .before .before .args in
-    omega (arith, below-end (a .k) (a .keys .now) (c .before .loop .i) (omega arith))
+returns c = omega arith
 
 pub keys-below-spec : {M : Type 1} → statement M
 keys-below-spec =
@@ -59,10 +67,13 @@ keys-below-spec =
     Inv-loop
     μ-loop
     loop-holds
+    sub-mid
+    add-mid
     mul-if1
     shared-slice-read-if1
-    add-n
-    add-i
+    add-lo
     loop-less
     loop-again
+    loop-less-2
+    loop-again-2
     returns)
