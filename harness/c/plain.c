@@ -43,7 +43,8 @@ static answer check(size_t c, size_t n, size_t m, const uint64_t *layer, size_t 
     return done(n + adds - strikes);
 }
 
-static bool ascend(const uint64_t *keys, size_t n) {
+/* a function of its own, so that its loop stands well in every call */
+static __attribute__((noinline)) bool ascend(const uint64_t *keys, size_t n) {
     for (size_t i = 1; i < n; i++)
         if (keys[i - 1] >= keys[i])
             return false;
