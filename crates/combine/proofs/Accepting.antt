@@ -107,10 +107,12 @@ module _ (c : ℕ) (K : List ℕ) (mR : ℕ) (rawR : List ℕ) (mW : ℕ) (rawW 
           (other-rows c (length K) (rowsAfter (length K) R) mW (length rawW) (and-r a b ok) few) upper in
           record {
             fit = record {
-              forms = record { lower = low; upper = up };
-              rising = not-false _ rising;
-              lower = omega (arith, ltb-false (fitPlace K R) (length R) lower-fit, layer-length c mR rawR);
-              mid = refl;
+              below = record {
+                forms = record { lower = low; upper = up };
+                rising = not-false _ rising;
+                lower = omega (arith, ltb-false (fitPlace K R) (length R) lower-fit, layer-length c mR rawR);
+                mid = refl;
+              };
               upper = omega (
                 arith,
                 ltb-false (fitPlace (keysAfter K R) W) (length W) upper-fit,

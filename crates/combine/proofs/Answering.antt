@@ -19,7 +19,7 @@ use Rattle.model.specs.declared.Answer.{Answer}
 use Rattle.model.specs.declared.Answer.the-variants.{Done, Refused}
 use Rattle.model.specs.Limits.{mostColumns, mostEntries, mostRows}
 use Rattle.model.specs.Layer.{Layer, rowsAfter}
-use Rattle.model.specs.Raw.{entriesOf, editOf, layerOf}
+use Rattle.model.specs.Raw.{entriesOf, entriesAt, editOf, layerOf}
 use Rattle.model.specs.Form.{argsOk, zeros, sound, follows, formPlace}
 use Rattle.model.specs.Fit.{fitPlace}
 use Rattle.model.specs.Read.{keysAfter}
@@ -43,7 +43,8 @@ use Rattle.form.proofs.Accepted.{Accepted, accepted, in-form}
 use Rattle.form.proofs.Answers.{raised, onward, after-form, form-row}
 use Rattle.read.specs.Runs.{Readable}
 use Rattle.read.proofs.Ready.{ready}
-use Rattle.combine.specs.Rows.{joinAnswer, fitsAnswer, Forms}
+use Rattle.read.proofs.Same.{bare}
+use Rattle.combine.specs.Rows.{joinAnswer, upperAnswer, fitsAnswer, Forms}
 
 -- the arguments pass over other rows too
 pub other-rows : (c n k m len : ℕ) → argsOk c n m len ≡ true → k ≤ 4096 → argsOk c k m len ≡ true
@@ -96,6 +97,11 @@ upper-few {c} {K} {mR} {rawR} {mW} {rawW} f =
     let n = rowsAfter (length K) (layerOf c mR rawR) in
     accepted c n mW rawW (rowsAfter n (layerOf c mW rawW)) (f .upper) .held .entries
 
+-- an empty lower layer leaves the base's own keys
+pub empty-lower : (c m : ℕ) (K rawR : List ℕ) → m ≡ 0 → K ≡ keysAfter K (layerOf c m rawR)
+unfolding layerOf entriesAt
+empty-lower c m K rawR e = sym (ap (λ (k : ℕ). keysAfter K (layerOf c k rawR)) e ∙ bare 0 0 K)
+
 pub mid-keys : (shown old new : List ℕ) (rows : ℕ) → rows ≡ length shown → new ≡ shown ++ drop (length shown) old
     → take rows new ≡ shown
 mid-keys shown old new rows r e = rw (r, e) (take-append-seam shown (drop (length shown) old))
@@ -120,27 +126,25 @@ module _ (c : ℕ) (K : List ℕ) (mR : ℕ) (rawR : List ℕ) (mW : ℕ) (rawW 
     unfolding fitsAnswer
     lower-refused p e l = rw (h, layer-length c mR rawR, ← e, lt-ltb p mR l, zero-add)
 
-    module _ (l : mR ≤ fitPlace K R) where
-      pub upper-refused : (N : List ℕ) → N ≡ keysAfter K R → (p : ℕ) → p ≡ fitPlace N W → p < mW
-          → Refused (refusal 4 (1000 + p)) ≡ fitsAnswer c K mR rawR mW rawW len
-      unfolding fitsAnswer
-      upper-refused N n p e u =
-          let q : p ≡ fitPlace (keysAfter K R) W = e ∙ ap (λ (L : List ℕ). fitPlace L W) n in
-          rw (h, layer-length c mR rawR, le-ltb (fitPlace K R) mR l, layer-length c mW rawW, ← q, lt-ltb p mW u)
+    pub upper-answer : mR ≤ fitPlace K R → upperAnswer c K mR rawR mW rawW len ≡ fitsAnswer c K mR rawR mW rawW len
+    unfolding fitsAnswer upperAnswer
+    upper-answer l = rw (h, layer-length c mR rawR, le-ltb (fitPlace K R) mR l)
 
-      pub join-answer : (N : List ℕ) → N ≡ keysAfter K R → mW ≤ fitPlace N W
-          → joinAnswer c K mR rawR mW rawW len ≡ fitsAnswer c K mR rawR mW rawW len
-      unfolding fitsAnswer joinAnswer
-      join-answer N n u =
-          let q : mW ≤ fitPlace (keysAfter K R) W = subst (λ (L : List ℕ). mW ≤ fitPlace L W) n u in
-          rw (
-            h,
-            layer-length c mR rawR,
-            le-ltb (fitPlace K R) mR l,
-            layer-length c mW rawW,
-            le-ltb
-                (fitPlace (keysAfter K R) W) mW q,
-          )
+  -- refusal 4 of the upper layer, and what is left of the table
+  module _ (N : List ℕ) (n : N ≡ keysAfter K R) where
+    pub upper-refused : (p : ℕ) → p ≡ fitPlace N W → p < mW
+        → Refused (refusal 4 (1000 + p)) ≡ upperAnswer c K mR rawR mW rawW len
+    unfolding upperAnswer
+    upper-refused p e u =
+        let q : p ≡ fitPlace (keysAfter K R) W = e ∙ ap (λ (L : List ℕ). fitPlace L W) n in
+        rw (layer-length c mW rawW, ← q, lt-ltb p mW u)
+
+    pub join-answer : mW ≤ fitPlace N W
+        → joinAnswer c K mR rawR mW rawW len ≡ upperAnswer c K mR rawR mW rawW len
+    unfolding upperAnswer joinAnswer
+    join-answer u =
+        let q : mW ≤ fitPlace (keysAfter K R) W = subst (λ (L : List ℕ). mW ≤ fitPlace L W) n u in
+        rw (layer-length c mW rawW, le-ltb (fitPlace (keysAfter K R) W) mW q)
 
   -- refusal 1
   pub args-refused : argsOk c (length K) mR (length rawR) && argsOk c (length K) mW (length rawW) ≡ false

@@ -9,6 +9,7 @@ use lib.Seq.{
   paste,
   length-paste,
   take-paste,
+  drop-paste,
   take-length,
   length-take-le,
   set-append-seam,
@@ -16,6 +17,7 @@ use lib.Seq.{
   take-at,
   drop-at,
   take-take,
+  drop-drop,
 }
 use borrow.Rule.Slice.PartMut.{putMid}
 use Rattle.run.proofs.Laws.{put-back}
@@ -30,6 +32,7 @@ pub put-paste : (ys old new : List ℕ) (o : ℕ) → o + length ys ≤ length o
 put-paste ys old new o h e = record {
   size = ap length e ∙ length-paste old o ys (length ys) h (omega arith);
   front = rw (e, take-paste old o ys (length ys) (omega arith) (omega arith), take-length ys);
+  behind = ap (drop (o + length ys)) e ∙ drop-paste old o ys (length ys) (omega arith) (omega arith);
 }
 
 -- the first number set anew
@@ -42,10 +45,11 @@ put-first x p ys old new o h e =
     let q : set new o p ≡ take o old ++ (p ∷ (ys ++ rest)) =
     rw (e, take-length (x ∷ ys), append-assoc (take o old) (x ∷ ys) rest) (set-at (take o old) x (ys ++ rest) p o l) in
     let r : set new o p ≡ (take o old ++ (p ∷ ys)) ++ rest = q ∙ sym (append-assoc (take o old) (p ∷ ys) rest) in
+    let n : length (take o old ++ (p ∷ ys)) ≡ o + suc (length ys) = omega (arith, length-append (take o old) (p ∷ ys)) in
     record {
       size = length-set new o p ∙ (ap length e ∙ length-paste old o (x ∷ ys) (suc (length ys)) h (omega arith));
-      front = rw (r) (take-at (take o old ++ (p ∷ ys)) rest (o + suc (length ys))
-          (omega (arith, length-append (take o old) (p ∷ ys))));
+      front = rw (r) (take-at (take o old ++ (p ∷ ys)) rest (o + suc (length ys)) n);
+      behind = ap (drop (o + suc (length ys))) r ∙ drop-at (take o old ++ (p ∷ ys)) rest (o + suc (length ys)) n;
     }
 
 -- an entry written at another position
@@ -67,6 +71,17 @@ pub front-on : (whole ys rest old new : List ℕ) (o : ℕ) → whole ≡ take o
 front-on whole ys rest old new o e w = e ∙ (sym (append-assoc (take o old) ys rest)
     ∙ ap (λ (t : List ℕ). t ++ rest) (sym (w .front)))
 
+-- where two lists agree from i on they agree from any later place on
+pub drop-on : (k i : ℕ) (xs ys : List ℕ) → drop i xs ≡ drop i ys → drop (i + k) xs ≡ drop (i + k) ys
+drop-on k i xs ys e = sym (drop-drop k i xs) ∙ (ap (drop k) e ∙ drop-drop k i ys)
+
+-- and what stands behind a piece is as it was at first
+pub behind-on : (ys old mid new : List ℕ) (o e : ℕ) → o + length ys ≡ e → drop o mid ≡ drop o old → Put ys mid o new
+    → drop e new ≡ drop e old
+behind-on ys old mid new o e n h w =
+    ap (λ (i : ℕ). drop i new) (sym n)
+    ∙ (w .behind ∙ (drop-on (length ys) o mid old h ∙ ap (λ (i : ℕ). drop i old) n))
+
 -- two pieces, one behind the other
 pub put-both : (ys zs old mid new : List ℕ) (o : ℕ) → Put ys old o mid → Put zs mid (o + length ys) new
     → Put (ys ++ zs) old o new
@@ -76,6 +91,8 @@ put-both ys zs old mid new o v w =
       size = w .size ∙ v .size;
       front = ap (λ (i : ℕ). take i new) n
           ∙ (w .front ∙ (ap (λ (t : List ℕ). t ++ zs) (v .front) ∙ append-assoc (take o old) ys zs));
+      behind = ap (λ (i : ℕ). drop i new) n ∙ (w .behind ∙ (drop-on (length zs) (o + length ys) mid old (v .behind)
+          ∙ ap (λ (i : ℕ). drop i old) (sym n)));
     }
 
 -- an entry whose values are written again
@@ -103,8 +120,11 @@ module _ (c x k o : ℕ) (vals row old mid new : List ℕ) (w : Put (x ∷ k ∷
       e ∙ (ap (λ (i : ℕ). putMid (o + 2) (o + 2 + i - (o + 2)) mid row) (sym lr) ∙ put-back mid row row (o + 2) refl) in
       let p = put-paste row mid new (o + 2) (omega (arith, w .size)) n in
       let m : o + length (x ∷ k ∷ row) ≡ o + 2 + length row = omega arith in
+      let l : o + 2 + length row ≡ o + length (x ∷ k ∷ vals) = omega arith in
       record {
         size = p .size ∙ w .size;
         front = ap (λ (i : ℕ). take i new) m
             ∙ (p .front ∙ (ap (λ (t : List ℕ). t ++ row) front-part ∙ append-assoc (take o old) (x ∷ k ∷ []) row));
+        behind = ap (λ (i : ℕ). drop i new) m ∙ (p .behind ∙ (ap (λ (i : ℕ). drop i mid) l ∙ (w .behind
+            ∙ ap (λ (i : ℕ). drop i old) (sym l ∙ sym m))));
       }

@@ -2,14 +2,14 @@
 -- writes.
 -- Assumes nothing.
 use mathlib.Core.Path.{_≡_, sym, ap, subst, _∙_}
-use mathlib.Core.Bool.{true}
+use mathlib.Core.Bool.{true, false}
 use mathlib.Core.List.{List, [], _++_}
-use Prim.Native.Nat.{ℕ, _+_, _*_, _/_, _≤_, _<_}
-use native.Mathlib.Nat.{mul-le-mul, mul-le-mul-right, div-mul-le-self, zero-add}
+use Prim.Native.Nat.{ℕ, _+_, _*_, _/_, _≤_}
+use native.Mathlib.Nat.{mul-le-mul-right, div-mul-le-self}
 use native.Mathlib.Omega.{arith}
-use lib.ListN.{length, take, drop}
-use lib.Seq.{paste, take-length}
-use borrow.Author.Tests.{eq-eqb, lt-ltb, le-ltb}
+use lib.ListN.{length, drop}
+use lib.Dec.{ltb}
+use borrow.Author.Tests.{eq-eqb, ltb-false, le-ltb}
 use Rattle.order.proofs.Pairs.{broken-le}
 use Rattle.model.specs.declared.Answer.the-variants.{Done, Refused}
 use Rattle.model.specs.Limits.{mostRows}
@@ -69,28 +69,26 @@ module _ {c : ℕ} {K N : List ℕ} {mR : ℕ} {rawR : List ℕ} {mW : ℕ} {raw
   M = combine K R W
 
   pub low : Accepted c (length K) mR rawR (rowsAfter (length K) R)
-  low = accepted c (length K) mR rawR (rowsAfter (length K) R) (f .forms .lower)
+  low = accepted c (length K) mR rawR (rowsAfter (length K) R) (f .below .forms .lower)
 
   pub up : Accepted c (rowsAfter (length K) R) mW rawW (rowsAfter (rowsAfter (length K) R) W)
-  up = accepted c (rowsAfter (length K) R) mW rawW (rowsAfter (rowsAfter (length K) R) W) (f .forms .upper)
+  up = accepted c (rowsAfter (length K) R) mW rawW (rowsAfter (rowsAfter (length K) R) W) (f .below .forms .upper)
 
   pub columns : c ≤ 8
   columns = low .held .columns
 
-  pub both : Both c K N mR rawR mW rawW 10240
+  pub both : Both c K N mR rawR mW rawW
   both = record {
-    lower = f .forms .lower ∙ ap Done (mid-rows (f .forms) N (f .mid));
-    upper = upper-form (f .forms) N (f .mid);
-    room = mul-le-mul {n₁ = mR + mW} {m₁ = c + 2} {n₂ = 1024} {m₂ = 10}
-        (omega (arith, low .held .entries, up .held .entries)) (omega (arith, columns));
+    lower = f .below .forms .lower ∙ ap Done (mid-rows (f .below .forms) N (f .below .mid));
+    upper = upper-form (f .below .forms) N (f .below .mid);
   }
 
   pub joins : Combines c K R W
-  joins = combines c K R W (f .rising) (low .ordered) (fits-of K R mR (low .size) (f .lower)) (up .ordered)
-      (subst (λ (L : List ℕ). fits L W ≡ true) (f .mid) (fits-of N W mW (up .size) (f .upper)))
+  joins = combines c K R W (f .below .rising) (low .ordered) (fits-of K R mR (low .size) (f .below .lower)) (up .ordered)
+      (subst (λ (L : List ℕ). fits L W ≡ true) (f .below .mid) (fits-of N W mW (up .size) (f .upper)))
 
   same : wovenLayer K N R W ≡ M
-  same = ap (λ (L : List ℕ). wovenLayer K L R W) (f .mid) ∙ joins .same
+  same = ap (λ (L : List ℕ). wovenLayer K L R W) (f .below .mid) ∙ joins .same
 
   pub flat-size : length (flat c M) ≡ length M * (c + 2)
   flat-size = flat-length c M (λ e m. sound-wide c (length K) (low .held .some) e (joins .each e m))
@@ -98,43 +96,29 @@ module _ {c : ℕ} {K N : List ℕ} {mR : ℕ} {rawR : List ℕ} {mW : ℕ} {raw
   pub rows-few : rowsAfter (length K) M ≤ 4096
   rows-few = omega (arith, joins .rows, up .few)
 
-  module _ {m : ℕ} {old new : List ℕ} (g : Woven c (wovenLayer K N R W) m old new) where
-    pub entries : m ≡ length M
-    entries = sym (g .entries) ∙ ap length same
+  -- refusal 9
+  pub short : (len : ℕ) → ltb (room c len) (length (wovenLayer K N R W)) ≡ true
+      → Refused (refusal 9 0) ≡ joinAnswer c K mR rawR mW rawW len
+  unfolding joinAnswer
+  short len h = rw (subst (λ (L : Layer). ltb (room c len) (length L) ≡ true) same h)
 
-    pub size : m * (c + 2) ≡ length (flat c M)
-    size = ap (λ (k : ℕ). k * (c + 2)) entries ∙ sym flat-size
-
-    pub end-fits : m * (c + 2) ≤ length new
-    end-fits = omega (arith, size, g .fits, ap (λ (L : Layer). length (flat c L)) same)
-
-    pub numbers : take (m * (c + 2)) new ≡ flat c M
-    numbers =
-        let e : m * (c + 2) ≡ length (flat c (wovenLayer K N R W)) =
-        size ∙ ap (λ (L : Layer). length (flat c L)) (sym same) in
-        ap (λ (k : ℕ). take k new) e ∙ (g .front ∙ ap (flat c) same)
-
-    -- refusal 9
-    pub short : (len k : ℕ) → k ≡ room c len → k < m → Refused (refusal 9 0) ≡ joinAnswer c K mR rawR mW rawW len
-    unfolding joinAnswer
-    short len k e h = rw (lt-ltb (room c len) (length M) (omega (arith, entries)))
+  -- there is room
+  module _ (len : ℕ) (h : ltb (room c len) (length (wovenLayer K N R W)) ≡ false) where
+    pub there : length (wovenLayer K N R W) * (c + 2) ≤ len
+    there =
+        let m = length (wovenLayer K N R W) in
+        (room-fits c len m (omega (arith, ltb-false (room c len) m h))) .1
 
     -- refusal 10 is not met
-    pub enough : (len k : ℕ) → k ≡ room c len → m ≤ k → Done m ≡ joinAnswer c K mR rawR mW rawW len
+    pub enough : (m : ℕ) → length (wovenLayer K N R W) ≡ m → Done m ≡ joinAnswer c K mR rawR mW rawW len
     unfolding joinAnswer
-    enough len k e h = rw (
-      le-ltb (room c len) (length M) (omega (arith, entries)),
-      le-ltb mostRows
-          (rowsAfter (length K) M) rows-few,
-      entries,
+    enough m e = rw (
+      subst (λ (L : Layer). ltb (room c len) (length L) ≡ false) same h,
+      le-ltb mostRows (rowsAfter (length K) M) rows-few,
+      sym e ∙ ap length same,
     )
 
-    pub there : (len k : ℕ) → k ≡ room c len → m ≤ k → m * (c + 2) ≤ len
-    there len k e h = (room-fits c len m (omega arith)) .1
-
-    -- what is copied
-    pub copied : (out done part : List ℕ) → part ≡ take (m * (c + 2)) new → done ≡ paste out 0 part (length part)
-        → done ≡ flat c M ++ drop (length (flat c M)) out
-    copied out done part p e =
-        let q : part ≡ flat c M = p ∙ numbers in
-        e ∙ (ap (λ (t : List ℕ). paste out 0 t (length t)) q ∙ rw (take-length (flat c M), zero-add))
+  -- what is written
+  pub written-whole : (m : ℕ) (old new : List ℕ) → Woven c (wovenLayer K N R W) m old new
+      → new ≡ flat c M ++ drop (length (flat c M)) old
+  written-whole m old new g = g .all ∙ ap (λ (L : Layer). flat c L ++ drop (length (flat c L)) old) same

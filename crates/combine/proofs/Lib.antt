@@ -8,6 +8,8 @@ pub mod Patching
 pub mod Placing
 pub mod Left
 pub mod Walking
+pub mod Writing
+pub mod Tallying
 pub mod Finishing
 pub mod Joining
 pub mod Answering

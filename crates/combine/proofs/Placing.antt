@@ -16,7 +16,7 @@ use mathlib.Core.List.{
 use Prim.Native.Nat.{ℕ, _+_, _*_, _-_, _≤_, _<_}
 use native.Mathlib.Nat.{sub-zero}
 use native.Mathlib.Omega.{arith}
-use lib.ListN.{length, getD, take, length-append}
+use lib.ListN.{length, getD, take, drop, length-append}
 use lib.Seq.{length-take-le}
 use Rattle.model.specs.declared.Entry.{Entry}
 use Rattle.model.specs.Layer.{Edit, at, Layer}
@@ -28,7 +28,7 @@ use Rattle.form.proofs.Laws.{vals-length}
 use Rattle.combine.specs.Woven.{rebased}
 use Rattle.combine.specs.Walk.{Put, Uppers}
 use Rattle.combine.proofs.Entries.{numbers-placed}
-use Rattle.combine.proofs.Buffer.{front-on}
+use Rattle.combine.proofs.Buffer.{front-on, behind-on}
 
 -- the numbers of a list of edits with one more in front
 pub flat-cons : (c : ℕ) (e : Edit) (L : Layer) → flat c (e ∷ L) ≡ numbersOf c e ++ flat c L
@@ -53,6 +53,7 @@ pub record Placing (c m start : ℕ) (w : List ℕ) (adds strikes : ℕ) (out₀
   pub below : (e : Entry) → Mem e (entriesAt c (m - i) from w) → e .pos ≤ 4096
   pub front : take o out₀ ++ flat c (map (rebased adds strikes) (map editOf (entriesAt c m start w)))
       ≡ take end out ++ flat c (map (rebased adds strikes) (map editOf (entriesAt c (m - i) from w)))
+  pub behind : drop end out ≡ drop end out₀
 
 pub set-out : {c m start : ℕ} {w : List ℕ} {adds strikes : ℕ} {out : List ℕ} {o : ℕ}
     → Uppers c m start w strikes o (length out)
@@ -68,6 +69,7 @@ set-out u = record {
   zeroed = rw sub-zero (u .zeroed);
   below = rw sub-zero (u .below);
   front = rw sub-zero;
+  behind = refl;
 }
 
 module _ {c m start : ℕ} {w : List ℕ} {adds strikes : ℕ} {out₀ : List ℕ} {o i from end : ℕ} {out : List ℕ}
@@ -89,7 +91,11 @@ module _ {c m start : ℕ} {w : List ℕ} {adds strikes : ℕ} {out₀ : List �
         length-take-le o out₀ (g .began),
         length-take-le end out (omega (arith, g .space, g .size)),
       ) in
-      record { size = g .size; front = ap (λ (k : ℕ). take k out) n ∙ sym all }
+      record {
+        size = g .size;
+        front = ap (λ (k : ℕ). take k out) n ∙ sym all;
+        behind = ap (λ (k : ℕ). drop k out) n ∙ (g .behind ∙ ap (λ (k : ℕ). drop k out₀) (sym n));
+      }
 
   module _ (h : i < m) where
     pub near : from + (c + 2) ≤ length w
@@ -138,4 +144,5 @@ module _ {c m start : ℕ} {w : List ℕ} {adds strikes : ℕ} {out₀ : List �
               (flat c (map (rebased adds strikes) U)) out new end
               (g .front ∙ ap (λ (t : List ℕ). take end out ++ t) rest) put
               ∙ ap (λ (k : ℕ). take k new ++ flat c (map (rebased adds strikes) U)) n;
+          behind = behind-on ys out₀ out new end (end + (c + 2)) n (g .behind) put;
         }

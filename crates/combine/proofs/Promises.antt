@@ -76,12 +76,12 @@ module _ (c : ℕ) (T : Table) (mR : ℕ) (rawR : List ℕ) (mW : ℕ) (rawW out
   F = A .fit
 
   asc : AscFrom key 0 T
-  asc = asc-of key T (F .rising)
+  asc = asc-of key T (F .below .rising)
 
   lower-good : Good c T R
   lower-good =
       good-of c T R asc (subst (λ (n : ℕ). inOrder c n R ≡ true) (keys-length T) (low F .ordered))
-      (fits-of K R mR (low F .size) (F .lower))
+      (fits-of K R mR (low F .size) (F .below .lower))
 
   over-good : Good c (read T R) W
   over-good =
@@ -121,7 +121,7 @@ module _ (c : ℕ) (T : Table) (mR : ℕ) (rawR : List ℕ) (mW : ℕ) (rawW out
         (subst (AllPairs follows) (sym back)
         (pairs-weaker before follows M (λ x y p q h. before-follows x y h)
         (combine-good c T R W asc lower-good over-good .fit .sorted)))
-        (subst (λ (L : Layer). rowsAfter (length K) L ≤ 4096) (sym back) (rows-few F)) (F .rising)
+        (subst (λ (L : Layer). rowsAfter (length K) L ≤ 4096) (sym back) (rows-few F)) (F .below .rising)
         (subst (λ (L : Layer). fits K L ≡ true) (sym back) (combine-fits c T R W asc lower-good over-good));
     reads = ap (read T) back ∙ combine-reads c T R W asc lower-good over-good;
     behind =

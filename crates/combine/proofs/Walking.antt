@@ -1,25 +1,22 @@
--- The state of the loop that walks along both layers, and what each step does to it.
+-- The walk along both layers: where it stands, how each step goes on and which edit it leaves, and its end.
 -- Assumes nothing.
 use mathlib.Core.Path.{_≡_, refl, sym, ap, _∙_}
 use mathlib.Core.Bool.{Bool, true, false, cond, _&&_, true≢false}
 use mathlib.Core.List.{List, [], _∷_, _++_, map, append-nil, List·Memᴰ as Mem}
 use Prim.Native.Nat.{ℕ, zero, suc, _+_, _*_, _-_, _≤_, _<_}
-use native.Mathlib.Nat.{zero-mul, suc-mul, add-mul, mul-le-mul-right}
 use native.Mathlib.Omega.{arith}
-use lib.ListN.{length, getD, take, drop, length-append, length-map, length-take}
-use lib.Seq.{length-take-le}
+use lib.ListN.{length, getD, drop, length-append, length-map}
 use lib.Dec.{leb, ltb, eqb}
 use borrow.Author.Tests.{ltb-true, ltb-false, leb-true, eqb-true}
 use Rattle.order.specs.Lists.{one}
-use Rattle.order.proofs.Tests.{and-l, and-r}
+use Rattle.order.proofs.Tests.{and-l, and-r, one-le}
 use Rattle.model.specs.declared.Entry.{Entry}
 use Rattle.model.specs.Cell.{to}
 use Rattle.model.specs.Layer.{Deed, add, strike, change, Edit, at, Layer, isAdd, isStrike}
 use Rattle.model.specs.Form.{sound}
-use Rattle.model.specs.Raw.{ADD, STRIKE, entryAt, editOf, layerOf, numbersOf, flat}
+use Rattle.model.specs.Raw.{ADD, STRIKE, entryAt, editOf, layerOf}
 use Rattle.model.specs.Meaning.{keyOf}
-use Rattle.model.proofs.Raw.{within, layer-length}
-use Rattle.form.proofs.Laws.{vals-length}
+use Rattle.model.proofs.Raw.{layer-length}
 use Rattle.form.proofs.ByKind.{add-kind, strike-kind}
 use Rattle.form.proofs.Accepted.{Accepted}
 use Rattle.combine.specs.declared.weave.Step.{Step}
@@ -36,11 +33,8 @@ use Rattle.combine.specs.Woven.{
   woven,
   wovenLayer,
 }
-use Rattle.combine.specs.Walk.{Put, Sound, Run, entriesLeft, lefts, Rest, Woven}
+use Rattle.combine.specs.Walk.{Sound, Run, entriesLeft, lefts}
 use Rattle.combine.proofs.Weaving.{outcome}
-use Rattle.combine.proofs.Entries.{numbers-placed, patched-length}
-use Rattle.combine.proofs.Buffer.{front-on}
-use Rattle.combine.proofs.Placing.{flat-cons}
 use Rattle.combine.proofs.Left.{
   mul-split,
   left-step,
@@ -55,43 +49,71 @@ use Rattle.combine.proofs.Left.{
   left-room,
 }
 
--- i entries of the lower layer and j of the upper are passed, m are written, and so many adds and strikes are counted
-pub record Walking (c : ℕ) (K N : List ℕ) (mR : ℕ) (r : List ℕ) (mW : ℕ) (w out₀ : List ℕ) (i j m adds strikes : ℕ)
-    (out : List ℕ) : Type 0 where
+-- i entries of the lower layer and j of the upper are passed, they left m edits, and so many adds and strikes are counted;
+-- the rest takes at most so many steps
+pub record Walked (c : ℕ) (K N : List ℕ) (mR : ℕ) (r : List ℕ) (mW : ℕ) (w : List ℕ) (fuel i j m adds strikes : ℕ)
+    : Type 0 where
   pub lower-upto : i ≤ mR
   pub upper-upto : j ≤ mW
-  pub size : length out ≡ length out₀
   pub few : m + ((mR - i) + (mW - j)) ≤ mR + mW
   pub few-adds : adds ≤ i
   pub few-strikes : strikes ≤ i
-  pub fuel : ℕ
   pub enough : (mR - i) + (mW - j) ≤ fuel
   pub entries : length (wovenLayer K N (layerOf c mR r) (layerOf c mW w))
       ≡ m + length (woven fuel K N adds strikes (lefts c mR i r) (lefts c mW j w))
-  pub front : flat c (wovenLayer K N (layerOf c mR r) (layerOf c mW w))
-      ≡ take (m * (c + 2)) out ++ flat c (woven fuel K N adds strikes (lefts c mR i r) (lefts c mW j w))
 
-pub set-out : (c : ℕ) (K N : List ℕ) (mR : ℕ) (r : List ℕ) (mW : ℕ) (w out : List ℕ)
-    → Walking c K N mR r mW w out 0 0 0 0 0 out
-set-out c K N mR r mW w out =
+-- the whole is what is left at first
+pub at-first : (c : ℕ) (K N : List ℕ) (mR : ℕ) (r : List ℕ) (mW : ℕ) (w : List ℕ)
+    → wovenLayer K N (layerOf c mR r) (layerOf c mW w) ≡ woven (mR + mW) K N 0 0 (lefts c mR 0 r) (lefts c mW 0 w)
+at-first c K N mR r mW w =
     let R = layerOf c mR r in
     let W = layerOf c mW w in
-    let l : wovenLayer K N R W ≡ woven (length R + length W) K N 0 0 (lefts c mR 0 r) (lefts c mW 0 w) =
-    ap (λ (t : Layer). woven (length R + length W) K N 0 0 t W) (sym (left-all c mR r))
-    ∙ ap (woven (length R + length W) K N 0 0 (lefts c mR 0 r)) (sym (left-all c mW w)) in
-    record {
-      lower-upto = omega arith;
-      upper-upto = omega arith;
-      size = refl;
-      few = omega arith;
-      few-adds = omega arith;
-      few-strikes = omega arith;
-      fuel = length R + length W;
-      enough = omega (arith, layer-length c mR r, layer-length c mW w);
-      entries = ap length l ∙ omega arith;
-      front = ap (flat c) l ∙ ap (λ (k : ℕ). take k out ++ flat c
-          (woven (length R + length W) K N 0 0 (lefts c mR 0 r) (lefts c mW 0 w))) (sym (zero-mul (c + 2)));
-    }
+    let n : length R + length W ≡ mR + mW = omega (arith, layer-length c mR r, layer-length c mW w) in
+    ap (λ (k : ℕ). woven k K N 0 0 R W) n
+    ∙ (ap (λ (t : Layer). woven (mR + mW) K N 0 0 t W) (sym (left-all c mR r))
+    ∙ ap (woven (mR + mW) K N 0 0 (lefts c mR 0 r)) (sym (left-all c mW w)))
+
+pub set-out : (c : ℕ) (K N : List ℕ) (mR : ℕ) (r : List ℕ) (mW : ℕ) (w : List ℕ)
+    → Walked c K N mR r mW w (mR + mW) 0 0 0 0 0
+set-out c K N mR r mW w = record {
+  lower-upto = omega arith;
+  upper-upto = omega arith;
+  few = omega arith;
+  few-adds = omega arith;
+  few-strikes = omega arith;
+  enough = omega arith;
+  entries = ap length (at-first c K N mR r mW w) ∙ omega arith;
+}
+
+-- a step from there: it leaves the edits xs, and the walk goes on behind i′ and j′
+pub record Next (c : ℕ) (K N : List ℕ) (mR : ℕ) (r : List ℕ) (mW : ℕ) (w : List ℕ) (fuel i j adds strikes : ℕ)
+    (i′ j′ adds′ strikes′ : ℕ) (xs : Layer) : Type 0 where
+  pub steps : ℕ
+  pub leaves : woven fuel K N adds strikes (lefts c mR i r) (lefts c mW j w)
+      ≡ xs ++ woven steps K N adds′ strikes′ (lefts c mR i′ r) (lefts c mW j′ w)
+  pub lower-upto : i′ ≤ mR
+  pub upper-upto : j′ ≤ mW
+  pub spent : length xs + (i + j) ≤ i′ + j′
+  pub lower-on : i ≤ i′
+  pub upper-on : j ≤ j′
+  pub few-adds : adds′ ≤ i′
+  pub few-strikes : strikes′ ≤ i′
+  pub enough : (mR - i′) + (mW - j′) ≤ steps
+
+module _ {c : ℕ} {K N : List ℕ} {mR : ℕ} {r : List ℕ} {mW : ℕ} {w : List ℕ} {fuel i j m adds strikes : ℕ}
+    (g : Walked c K N mR r mW w fuel i j m adds strikes) where
+  pub step-on : {i′ j′ a′ s′ : ℕ} {xs : Layer} (t : Next c K N mR r mW w fuel i j adds strikes i′ j′ a′ s′ xs) (m′ : ℕ)
+      → m′ ≡ m + length xs → Walked c K N mR r mW w (t .steps) i′ j′ m′ a′ s′
+  step-on {i′} {j′} {a′} {s′} {xs} t m′ e = record {
+    lower-upto = t .lower-upto;
+    upper-upto = t .upper-upto;
+    few = omega (arith, g .few, t .spent, t .lower-on, t .upper-on, t .lower-upto, t .upper-upto);
+    few-adds = t .few-adds;
+    few-strikes = t .few-strikes;
+    enough = t .enough;
+    entries = g .entries ∙ (ap (λ (L : Layer). m + length L) (t .leaves)
+        ∙ omega (arith, length-append xs (woven (t .steps) K N a′ s′ (lefts c mR i′ r) (lefts c mW j′ w))));
+  }
 
 -- a patched entry adds
 meet-patch : (d x : Deed) → meet d x ≡ Patch → (s : ℕ) → isAdd (at s d) ≡ true
@@ -146,7 +168,7 @@ no-lower (suc n) K N a s [] h = refl
 no-lower (suc n) K N a s (f ∷ W) h = refl
 
 -- a sound entry stands within the rows
-position-upto : (c n : ℕ) (e : Entry) → sound c n (editOf e) ≡ true → e .pos ≤ n
+pub position-upto : (c n : ℕ) (e : Entry) → sound c n (editOf e) ≡ true → e .pos ≤ n
 position-upto c n e h = go (eqb (e .kind) ADD) (eqb (e .kind) STRIKE) h
   where
     go : (a b : Bool)
@@ -161,17 +183,9 @@ position-upto c n e h = go (eqb (e .kind) ADD) (eqb (e .kind) STRIKE) h
           (leb 1 (e .kind) && ltb (e .kind) c) z),
     )
 
--- so many numbers can be taken only where there are so many
-taken-fits : (n : ℕ) (xs : List ℕ) → length (take n xs) ≡ n → n ≤ length xs
-taken-fits n xs h = omega (arith, length-take n xs)
-
-module _ {c : ℕ} {K N : List ℕ} {mR : ℕ} {r : List ℕ} {mW : ℕ} {w out₀ : List ℕ} {rows : ℕ}
+module _ {c : ℕ} {K N : List ℕ} {mR : ℕ} {r : List ℕ} {mW : ℕ} {w : List ℕ} {rows : ℕ}
     (AR : Accepted c (length K) mR r (length N)) (AW : Accepted c (length N) mW w rows)
-    (space : (mR + mW) * (c + 2) ≤ length out₀)
-    {i j m adds strikes : ℕ} {out : List ℕ} (g : Walking c K N mR r mW w out₀ i j m adds strikes out) where
-  abbrev whole : Layer
-  whole = wovenLayer K N (layerOf c mR r) (layerOf c mW w)
-
+    {fuel i j m adds strikes : ℕ} (g : Walked c K N mR r mW w fuel i j m adds strikes) where
   -- the next entries
   abbrev E : Entry
   E = entryAt c (i * (c + 2)) r
@@ -179,57 +193,8 @@ module _ {c : ℕ} {K N : List ℕ} {mR : ℕ} {r : List ℕ} {mW : ℕ} {w out�
   abbrev F : Entry
   F = entryAt c (j * (c + 2)) w
 
-  -- the offsets are small
-  pub offset : (k : ℕ) → k ≤ mR + mW → k * (c + 2) ≤ length out
-  offset k h = omega (arith, space, g .size, mul-le-mul-right {m = k} {n = mR + mW} (c + 2) h)
-
-  -- some edits are passed and nothing is written
-  silent : (n i′ j′ a′ s′ : ℕ)
-      → woven (g .fuel) K N adds strikes (lefts c mR i r) (lefts c mW j w)
-      ≡ woven n K N a′ s′ (lefts c mR i′ r) (lefts c mW j′ w)
-      → i ≤ i′ → i′ ≤ mR → j ≤ j′ → j′ ≤ mW → a′ ≤ i′ → s′ ≤ i′ → (mR - i′) + (mW - j′) ≤ n
-      → Walking c K N mR r mW w out₀ i′ j′ m a′ s′ out
-  silent n i′ j′ a′ s′ e hi li hj lj ha hs hn = record {
-    lower-upto = li;
-    upper-upto = lj;
-    size = g .size;
-    few = omega (arith, g .few);
-    few-adds = ha;
-    few-strikes = hs;
-    fuel = n;
-    enough = hn;
-    entries = g .entries ∙ ap (λ (t : Layer). m + length t) e;
-    front = g .front ∙ ap (λ (t : Layer). take (m * (c + 2)) out ++ flat c t) e;
-  }
-
-  -- some are passed and one is written
-  emitted : (n i′ j′ a′ s′ : ℕ) (x : Edit) (ys new : List ℕ)
-      → woven (g .fuel) K N adds strikes (lefts c mR i r) (lefts c mW j w)
-      ≡ x ∷ woven n K N a′ s′ (lefts c mR i′ r) (lefts c mW j′ w)
-      → numbersOf c x ≡ ys → length ys ≡ c + 2 → Put ys out (m * (c + 2)) new
-      → i ≤ i′ → i′ ≤ mR → j ≤ j′ → j′ ≤ mW → i + j < i′ + j′ → a′ ≤ i′ → s′ ≤ i′ → (mR - i′) + (mW - j′) ≤ n
-      → Walking c K N mR r mW w out₀ i′ j′ (m + 1) a′ s′ new
-  emitted n i′ j′ a′ s′ x ys new e nx ly put hi li hj lj less ha hs hn =
-      let L = woven n K N a′ s′ (lefts c mR i′ r) (lefts c mW j′ w) in
-      let k : m * (c + 2) + length ys ≡ (m + 1) * (c + 2) =
-      omega (arith, ly, add-mul m 1 (c + 2), suc-mul 0 (c + 2), zero-mul (c + 2)) in
-      let f : flat c whole ≡ take (m * (c + 2)) out ++ (ys ++ flat c L) =
-      g .front ∙ (ap (λ (t : Layer). take (m * (c + 2)) out ++ flat c t) e
-      ∙ (ap (λ (t : List ℕ). take (m * (c + 2)) out ++ t) (flat-cons c x L)
-      ∙ ap (λ (t : List ℕ). take (m * (c + 2)) out ++ (t ++ flat c L)) nx)) in
-      record {
-        lower-upto = li;
-        upper-upto = lj;
-        size = put .size ∙ g .size;
-        few = omega (arith, g .few);
-        few-adds = ha;
-        few-strikes = hs;
-        fuel = n;
-        enough = hn;
-        entries = g .entries ∙ (ap (λ (t : Layer). m + length t) e ∙ omega arith);
-        front = front-on (flat c whole) ys (flat c L) out new (m * (c + 2)) f put
-            ∙ ap (λ (t : ℕ). take t new ++ flat c L) k;
-      }
+  abbrev Goes : ℕ → ℕ → ℕ → ℕ → Layer → Type 0
+  Goes i′ j′ a′ s′ xs = Next c K N mR r mW w fuel i j adds strikes i′ j′ a′ s′ xs
 
   module _ (h : i < mR) (l : j < mW) where
     pub lower-room : i * (c + 2) + (c + 2) ≤ length r
@@ -238,13 +203,10 @@ module _ {c : ℕ} {K N : List ℕ} {mR : ℕ} {r : List ℕ} {mW : ℕ} {w out�
     pub upper-room : j * (c + 2) + (c + 2) ≤ length w
     upper-room = left-room c mW w j l (AW .held .room)
 
-    pub there : m * (c + 2) + (c + 2) ≤ length out
-    there = omega (arith, within m (mR + mW) (c + 2) (omega (arith, g .few)), space, g .size)
-
-    lower-in : Mem E (entriesLeft c mR i r)
+    pub lower-in : Mem E (entriesLeft c mR i r)
     lower-in = left-first c mR r i h
 
-    upper-in : Mem F (entriesLeft c mW j w)
+    pub upper-in : Mem F (entriesLeft c mW j w)
     upper-in = left-first c mW w j l
 
     lower-sound : sound c (length K) (editOf E) ≡ true
@@ -259,30 +221,15 @@ module _ {c : ℕ} {K N : List ℕ} {mR : ℕ} {r : List ℕ} {mW : ℕ} {w out�
     pub upper-alone : Sound c (j * (c + 2)) w (length N)
     upper-alone = record { room = upper-room; some = AW .held .some; rows = AW .base; alone = upper-sound }
 
-    -- an entry's numbers at a position
-    lower-numbers : (p : ℕ) → numbersOf c (placed p (editOf E)) ≡ p ∷ E .kind ∷ E .vals
-    lower-numbers p = numbers-placed c p E (vals-length c (i * (c + 2)) r lower-room) (AR .held .some)
-        (AR .zeroed E (left-in c mR r i (g .lower-upto) E lower-in))
-
-    upper-numbers : (p : ℕ) → numbersOf c (placed p (editOf F)) ≡ p ∷ F .kind ∷ F .vals
-    upper-numbers p = numbers-placed c p F (vals-length c (j * (c + 2)) w upper-room) (AW .held .some)
-        (AW .zeroed F (left-in c mW w j (g .upper-upto) F upper-in))
-
-    lower-width : (p : ℕ) → length (p ∷ E .kind ∷ E .vals) ≡ c + 2
-    lower-width p = omega (arith, vals-length c (i * (c + 2)) r lower-room)
-
-    upper-width : (p : ℕ) → length (p ∷ F .kind ∷ F .vals) ≡ c + 2
-    upper-width p = omega (arith, vals-length c (j * (c + 2)) w upper-room)
-
     pub upper-low : getD w (j * (c + 2)) 0 ≤ 4096
     upper-low = omega (arith, position-upto c (length N) F upper-sound, AW .base)
 
     -- what the walk leaves, by the step
     turned : (t : Step) → t ≡ stepOf K N (editOf E) (editOf F)
         → (n : ℕ) × ((mR - i) + (mW - j) ≤ suc n)
-        × (woven (g .fuel) K N adds strikes (lefts c mR i r) (lefts c mW j w)
+        × (woven fuel K N adds strikes (lefts c mR i r) (lefts c mW j w)
         ≡ outcome n K N adds strikes (editOf E) (editOf F) (lefts c mR (i + 1) r) (lefts c mW (j + 1) w) t)
-    turned t e = by-fuel (g .fuel) (g .enough)
+    turned t e = by-fuel fuel (g .enough)
       where
         by-fuel : (f : ℕ) → (mR - i) + (mW - j) ≤ f
             → (n : ℕ) × ((mR - i) + (mW - j) ≤ suc n)
@@ -305,68 +252,100 @@ module _ {c : ℕ} {K N : List ℕ} {mR : ℕ} {r : List ℕ} {mW : ℕ} {w out�
     back-upper : editOf F ∷ lefts c mW (j + 1) w ≡ lefts c mW j w
     back-upper = sym (left-step c mW w j l)
 
-    pub on-lower : Lower ≡ stepOf K N (editOf E) (editOf F) → (a s : ℕ) (new : List ℕ)
-        → a ≡ one (eqb (E .kind) ADD) → a ≤ 1
-        → s ≡ one (eqb (E .kind) STRIKE) → s ≤ 1 → Put (E .pos ∷ E .kind ∷ E .vals) out (m * (c + 2)) new
-        → Walking c K N mR r mW w out₀ (i + 1) j (m + 1) (adds + a) (strikes + s) new
-    on-lower e a s new ea la es ls put =
+    pub next-lower : Lower ≡ stepOf K N (editOf E) (editOf F) → (a s : ℕ) → a ≡ one (eqb (E .kind) ADD) → a ≤ 1
+        → s ≡ one (eqb (E .kind) STRIKE) → s ≤ 1 → Goes (i + 1) j (adds + a) (strikes + s) (editOf E ∷ [])
+    next-lower e a s ea la es ls =
         let v = turned Lower e in
         let n = v .0 in
         let ha : adds + one (isAdd (editOf E)) ≡ adds + a = ap (λ (t : ℕ). adds + t) (ap one (add-kind E) ∙ sym ea) in
         let hs : strikes + one (isStrike (editOf E)) ≡ strikes + s =
         ap (λ (t : ℕ). strikes + t) (ap one (strike-kind E) ∙ sym es) in
-        emitted n (i + 1) j (adds + a) (strikes + s) (editOf E) (E .pos ∷ E .kind ∷ E .vals) new
-        (v .2 ∙ (ap (λ (x : ℕ). editOf E ∷ woven n K N x (strikes + one (isStrike (editOf E))) (lefts c mR (i + 1) r)
-        (editOf F ∷ lefts c mW (j + 1) w)) ha
-        ∙ (ap (λ (x : ℕ). editOf E ∷ woven n K N (adds + a) x (lefts c mR (i + 1) r)
-        (editOf F ∷ lefts c mW (j + 1) w)) hs
-        ∙ ap (λ (t : Layer). editOf E ∷ woven n K N (adds + a) (strikes + s) (lefts c mR (i + 1) r) t) back-upper)))
-        (lower-numbers (E .pos)) (lower-width (E .pos)) put
-        (omega arith) (omega arith) (omega arith) (g .upper-upto) (omega arith) (omega (arith, g .few-adds))
-        (omega (arith, g .few-strikes))
-        (omega (arith, v .1))
+        record {
+          steps = n;
+          leaves = v .2
+              ∙ (ap (λ (x : ℕ). editOf E ∷ woven n K N x (strikes + one (isStrike (editOf E))) (lefts c mR (i + 1) r)
+              (editOf F ∷ lefts c mW (j + 1) w)) ha
+              ∙ (ap (λ (x : ℕ). editOf E ∷ woven n K N (adds + a) x (lefts c mR (i + 1) r)
+              (editOf F ∷ lefts c mW (j + 1) w)) hs
+              ∙ ap (λ (t : Layer). editOf E ∷ woven n K N (adds + a) (strikes + s) (lefts c mR (i + 1) r) t)
+              back-upper));
+          lower-upto = omega arith;
+          upper-upto = g .upper-upto;
+          spent = omega arith;
+          lower-on = omega arith;
+          upper-on = omega arith;
+          few-adds = omega (arith, g .few-adds);
+          few-strikes = omega (arith, g .few-strikes);
+          enough = omega (arith, v .1);
+        }
 
-    pub on-upper : Upper ≡ stepOf K N (editOf E) (editOf F) → (p : ℕ) (new : List ℕ) → p ≡ (F .pos + strikes) - adds
-        → Put (p ∷ F .kind ∷ F .vals) out (m * (c + 2)) new → Walking c K N mR r mW w out₀ i (j + 1) (m + 1) adds
-        strikes new
-    on-upper e p new ep put =
-        let v = turned Upper e in
-        let n = v .0 in
-        emitted n i (j + 1) adds strikes (placed ((F .pos + strikes) - adds) (editOf F)) (p ∷ F .kind ∷ F .vals) new
-        (v .2 ∙ ap (λ (t : Layer). placed ((F .pos + strikes) - adds) (editOf F) ∷ woven n K N adds strikes t
-        (lefts c mW (j + 1) w)) back-lower)
-        (upper-numbers ((F .pos + strikes) - adds) ∙ ap (λ (t : ℕ). t ∷ F .kind ∷ F .vals) (sym ep)) (upper-width p) put
-        (omega arith) (g .lower-upto) (omega arith) (omega arith) (omega arith) (g .few-adds) (g .few-strikes)
-        (omega (arith, v .1))
+    -- its own adds and strikes counted
+    pub lower-goes : Lower ≡ stepOf K N (editOf E) (editOf F)
+        → Goes (i + 1) j (adds + one (eqb (E .kind) ADD)) (strikes + one (eqb (E .kind) STRIKE)) (editOf E ∷ [])
+    lower-goes e =
+        let a = eqb (E .kind) ADD in
+        let s = eqb (E .kind) STRIKE in
+        next-lower e (one a) (one s) refl (one-le a) refl (one-le s)
 
-    pub on-here : UpperHere ≡ stepOf K N (editOf E) (editOf F) → (new : List ℕ)
-        → Put (E .pos ∷ F .kind ∷ F .vals) out (m * (c + 2)) new
-        → Walking c K N mR r mW w out₀ i (j + 1) (m + 1) adds strikes new
-    on-here e new put =
-        let v = turned UpperHere e in
-        let n = v .0 in
-        emitted n i (j + 1) adds strikes (placed (E .pos) (editOf F)) (E .pos ∷ F .kind ∷ F .vals) new
-        (v .2 ∙ ap (λ (t : Layer). placed (E .pos) (editOf F) ∷ woven n K N adds strikes t (lefts c mW (j + 1) w))
-        back-lower)
-        (upper-numbers (E .pos)) (upper-width (E .pos)) put
-        (omega arith) (g .lower-upto) (omega arith) (omega arith) (omega arith) (g .few-adds) (g .few-strikes)
-        (omega (arith, v .1))
+    -- the upper edit is left at position p
+    upper-next : (p n : ℕ) → (mR - i) + (mW - j) ≤ suc n
+        → woven fuel K N adds strikes (lefts c mR i r) (lefts c mW j w)
+        ≡ placed p (editOf F) ∷ woven n K N adds strikes (editOf E ∷ lefts c mR (i + 1) r) (lefts c mW (j + 1) w)
+        → Goes i (j + 1) adds strikes (placed p (editOf F) ∷ [])
+    upper-next p n q e = record {
+      steps = n;
+      leaves = e ∙ ap (λ (t : Layer). placed p (editOf F) ∷ woven n K N adds strikes t (lefts c mW (j + 1) w))
+          back-lower;
+      lower-upto = g .lower-upto;
+      upper-upto = omega arith;
+      spent = omega arith;
+      lower-on = omega arith;
+      upper-on = omega arith;
+      few-adds = g .few-adds;
+      few-strikes = g .few-strikes;
+      enough = omega (arith, q);
+    }
 
-    pub on-drop : Drop ≡ stepOf K N (editOf E) (editOf F) → Walking c K N mR r mW w out₀ (i + 1) j m adds strikes out
-    on-drop e =
+    pub next-upper : Upper ≡ stepOf K N (editOf E) (editOf F)
+        → Goes i (j + 1) adds strikes (placed ((F .pos + strikes) - adds) (editOf F) ∷ [])
+    next-upper e = let v = turned Upper e in upper-next ((F .pos + strikes) - adds) (v .0) (v .1) (v .2)
+
+    pub next-here : UpperHere ≡ stepOf K N (editOf E) (editOf F)
+        → Goes i (j + 1) adds strikes (placed (E .pos) (editOf F) ∷ [])
+    next-here e = let v = turned UpperHere e in upper-next (E .pos) (v .0) (v .1) (v .2)
+
+    pub next-drop : Drop ≡ stepOf K N (editOf E) (editOf F) → Goes (i + 1) j adds strikes []
+    next-drop e =
         let v = turned Drop e in
         let n = v .0 in
-        silent n (i + 1) j adds strikes (v .2 ∙ ap (woven n K N adds strikes (lefts c mR (i + 1) r)) back-upper)
-        (omega arith) (omega arith) (omega arith) (g .upper-upto) (omega (arith, g .few-adds))
-        (omega (arith, g .few-strikes)) (omega (arith, v .1))
+        record {
+          steps = n;
+          leaves = v .2 ∙ ap (woven n K N adds strikes (lefts c mR (i + 1) r)) back-upper;
+          lower-upto = omega arith;
+          upper-upto = g .upper-upto;
+          spent = omega arith;
+          lower-on = omega arith;
+          upper-on = omega arith;
+          few-adds = omega (arith, g .few-adds);
+          few-strikes = omega (arith, g .few-strikes);
+          enough = omega (arith, v .1);
+        }
 
-    pub on-vanish : Vanish ≡ stepOf K N (editOf E) (editOf F)
-        → Walking c K N mR r mW w out₀ (i + 1) (j + 1) m (adds + 1) strikes out
-    on-vanish e =
+    pub next-vanish : Vanish ≡ stepOf K N (editOf E) (editOf F) → Goes (i + 1) (j + 1) (adds + 1) strikes []
+    next-vanish e =
         let v = turned Vanish e in
-        silent (v .0) (i + 1) (j + 1) (adds + 1) strikes (v .2)
-        (omega arith) (omega arith) (omega arith) (omega arith) (omega (arith, g .few-adds))
-        (omega (arith, g .few-strikes)) (omega (arith, v .1))
+        record {
+          steps = v .0;
+          leaves = v .2;
+          lower-upto = omega arith;
+          upper-upto = omega arith;
+          spent = omega arith;
+          lower-on = omega arith;
+          upper-on = omega arith;
+          few-adds = omega (arith, g .few-adds);
+          few-strikes = omega (arith, g .few-strikes);
+          enough = omega (arith, v .1);
+        }
 
     -- the upper layer's changes are of columns
     pub runs : Run c (mW - j) (j * (c + 2)) w c
@@ -380,104 +359,71 @@ module _ {c : ℕ} {K N : List ℕ} {mR : ℕ} {r : List ℕ} {mW : ℕ} {w out�
     pub ahead : changesAhead (F .pos) (lefts c mW j w) ≤ mW - j
     ahead = omega (arith, ahead-upto (F .pos) (lefts c mW j w), left-length c mW w j)
 
-    pub on-patch : Patch ≡ stepOf K N (editOf E) (editOf F) → (k : ℕ) (new : List ℕ)
-        → k ≡ changesAhead (F .pos) (lefts c mW j w)
-        → Put (E .pos ∷ E .kind ∷ patched (F .pos) (lefts c mW j w) (E .vals)) out (m * (c + 2)) new
-        → Walking c K N mR r mW w out₀ (i + 1) (j + k) (m + 1) (adds + 1) strikes new
-    on-patch e k new ek put =
+    pub patch-adds : Patch ≡ stepOf K N (editOf E) (editOf F) → E .kind ≡ ADD
+    patch-adds e = eqb-true (E .kind) ADD (step-patch K N E (editOf F) (sym e))
+
+    pub next-patch : Patch ≡ stepOf K N (editOf E) (editOf F) → (k : ℕ) → k ≡ changesAhead (F .pos) (lefts c mW j w)
+        → Goes (i + 1) (j + k) (adds + 1) strikes
+        (at (E .pos) (add (patched (F .pos) (lefts c mW j w) (E .vals))) ∷ [])
+    next-patch e k ek =
         let v = turned Patch e in
         let n = v .0 in
         let U = lefts c mW j w in
         let row = patched (F .pos) U (E .vals) in
         let q = step-patch K N E (editOf F) (sym e) in
-        let kind : E .kind ≡ ADD = eqb-true (E .kind) ADD q in
         let added : editOf E ≡ at (E .pos) (add (E .vals)) = rw (q) in
         let D : (t : Layer) → patchedAdd (F .pos) t (editOf E) ≡ at (E .pos) (add (patched (F .pos) t (E .vals))) =
         λ t. ap (patchedAdd (F .pos) t) added in
         let kj : k ≤ mW - j = omega (arith, ahead) in
         let rest : drop (changesAhead (F .pos) U) U ≡ lefts c mW (j + k) w =
         ap (λ (t : ℕ). drop t U) (sym ek) ∙ left-drop c mW w k j (omega (arith, g .upper-upto)) in
-        emitted n (i + 1) (j + k) (adds + 1) strikes (at (E .pos) (add row)) (E .pos ∷ E .kind ∷ row) new
-        (v .2
-        ∙ (ap (λ (t : Layer). patchedAdd (F .pos) t (editOf E) ∷ woven n K N (adds + 1) strikes (lefts c mR (i + 1) r)
-        (drop (changesAhead (F .pos) t) t)) back-upper
-        ∙ (ap (λ (x : Edit). x ∷ woven n K N (adds + 1) strikes (lefts c mR (i + 1) r)
-        (drop (changesAhead (F .pos) U) U)) (D U)
-        ∙ ap (λ (t : Layer). at (E .pos) (add row) ∷ woven n K N (adds + 1) strikes (lefts c mR (i + 1) r) t) rest)))
-        (ap (λ (t : ℕ). E .pos ∷ t ∷ row) (sym kind))
-        (omega (arith, patched-length (F .pos) U (E .vals), vals-length c (i * (c + 2)) r lower-room)) put
-        (omega arith) (omega arith) (omega arith) (omega (arith, g .upper-upto)) (omega arith)
-        (omega (arith, g .few-adds)) (omega (arith, g .few-strikes))
-        (omega (arith, v .1))
+        record {
+          steps = n;
+          leaves = v .2
+              ∙ (ap (λ (t : Layer). patchedAdd (F .pos) t (editOf E) ∷ woven n K N (adds + 1) strikes
+              (lefts c mR (i + 1) r) (drop (changesAhead (F .pos) t) t)) back-upper
+              ∙ (ap (λ (x : Edit). x ∷ woven n K N (adds + 1) strikes (lefts c mR (i + 1) r)
+              (drop (changesAhead (F .pos) U) U)) (D U)
+              ∙ ap (λ (t : Layer). at (E .pos) (add row) ∷ woven n K N (adds + 1) strikes (lefts c mR (i + 1) r) t)
+              rest));
+          lower-upto = omega arith;
+          upper-upto = omega (arith, g .upper-upto);
+          spent = omega arith;
+          lower-on = omega arith;
+          upper-on = omega arith;
+          few-adds = omega (arith, g .few-adds);
+          few-strikes = omega (arith, g .few-strikes);
+          enough = omega (arith, v .1);
+        }
 
   -- one layer has nothing left
   module _ (q : ltb i mR && ltb j mW ≡ false) where
-    over : woven (g .fuel) K N adds strikes (lefts c mR i r) (lefts c mW j w)
+    pub over : woven fuel K N adds strikes (lefts c mR i r) (lefts c mW j w)
         ≡ lefts c mR i r ++ map (rebased adds strikes) (lefts c mW j w)
     over = cases (ltb i mR) refl (ltb j mW) refl
       where
         cases : (a : Bool) → ltb i mR ≡ a → (b : Bool) → ltb j mW ≡ b
-            → woven (g .fuel) K N adds strikes (lefts c mR i r) (lefts c mW j w)
+            → woven fuel K N adds strikes (lefts c mR i r) (lefts c mW j w)
             ≡ lefts c mR i r ++ map (rebased adds strikes) (lefts c mW j w)
         cases true e true f = absurd (true≢false (rw (e, f) at q))
         cases true e false f =
             let z : lefts c mW j w ≡ [] = left-end c mW w j (omega (arith, ltb-false j mW f)) in
-            ap (woven (g .fuel) K N adds strikes (lefts c mR i r)) z
-            ∙ (no-upper (g .fuel) K N adds strikes (lefts c mR i r)
+            ap (woven fuel K N adds strikes (lefts c mR i r)) z
+            ∙ (no-upper fuel K N adds strikes (lefts c mR i r)
             ∙ (sym (append-nil (lefts c mR i r)) ∙ ap (λ (t : Layer). lefts c mR i r ++ map (rebased adds strikes) t)
             (sym z)))
         cases false e b f =
             let z : lefts c mR i r ≡ [] = left-end c mR r i (omega (arith, ltb-false i mR e)) in
-            ap (λ (t : Layer). woven (g .fuel) K N adds strikes t (lefts c mW j w)) z
-            ∙ (no-lower (g .fuel) K N adds strikes (lefts c mW j w) (omega (arith, g .enough, left-length c mW w j))
+            ap (λ (t : Layer). woven fuel K N adds strikes t (lefts c mW j w)) z
+            ∙ (no-lower fuel K N adds strikes (lefts c mW j w) (omega (arith, g .enough, left-length c mW w j))
             ∙ ap (λ (t : Layer). t ++ map (rebased adds strikes) (lefts c mW j w)) (sym z))
 
-  pub rests : Rest c mR i r mW j w strikes (m * (c + 2)) (length out)
-  rests = record {
-    lower = AR .held;
-    upper = AW .held;
-    lower-upto = g .lower-upto;
-    upper-upto = g .upper-upto;
-    few = omega (arith, g .few-strikes, g .lower-upto, AR .held .entries);
-    space = omega (
-      arith,
-      add-mul m ((mR - i) + (mW - j)) (c + 2),
-      mul-le-mul-right {m = m + ((mR - i) + (mW - j))} {n = mR + mW} (c + 2) (g .few),
-      space,
-      g .size,
-    );
-    lower-zeroed = λ e n. AR .zeroed e (left-in c mR r i (g .lower-upto) e n);
-    upper-zeroed = λ e n. AW .zeroed e (left-in c mW w j (g .upper-upto) e n);
-    below = λ e n. omega (
-      arith,
-      position-upto c (length N) e (AW .each (editOf e) (edit-in c mW w e (left-in c mW w j (g .upper-upto) e n))),
-      AW .base,
-    );
-  }
-
-  pub ended : ltb i mR && ltb j mW ≡ false → (new : List ℕ)
-      → Put (flat c (lefts c mR i r ++ map (rebased adds strikes) (lefts c mW j w))) out (m * (c + 2)) new
-      → Woven c whole (m + (mR - i) + (mW - j)) out₀ new
-  ended q new put =
-      let L = lefts c mR i r ++ map (rebased adds strikes) (lefts c mW j w) in
-      let ys = flat c L in
-      let f : flat c whole ≡ take (m * (c + 2)) out ++ ys = g .front
-      ∙ ap (λ (t : Layer). take (m * (c + 2)) out ++ flat c t) (over q) in
-      let p : flat c whole ≡ take (m * (c + 2) + length ys) new = f ∙ sym (put .front) in
-      let o : m * (c + 2) ≤ length out = offset m (omega (arith, g .few)) in
-      let n : length (flat c whole) ≡ m * (c + 2) + length ys =
-      ap length f ∙ (length-append (take (m * (c + 2)) out) ys
-      ∙ ap (λ (t : ℕ). t + length ys) (length-take-le (m * (c + 2)) out o)) in
-      record {
-        size = put .size ∙ g .size;
-        entries = g .entries ∙ (ap (λ (t : Layer). m + length t) (over q)
-            ∙ omega (
-              arith,
-              length-append (lefts c mR i r) (map (rebased adds strikes) (lefts c mW j w)),
-              length-map (lefts c mW j w) (rebased adds strikes),
-              left-length c mR r i,
-              left-length c mW w j,
-            ));
-        fits = taken-fits (length (flat c whole)) new (ap length (ap (λ (t : ℕ). take t new) n) ∙ ap length (sym p));
-        front = ap (λ (t : ℕ). take t new) n ∙ sym p;
-      }
+    pub counted : length (wovenLayer K N (layerOf c mR r) (layerOf c mW w)) ≡ m + (mR - i) + (mW - j)
+    counted = g .entries ∙ (ap (λ (t : Layer). m + length t) over
+        ∙ omega (
+          arith,
+          length-append (lefts c mR i r) (map (rebased adds strikes) (lefts c mW j w)),
+          length-map (lefts c mW j w) (rebased adds strikes),
+          left-length c mR r i,
+          left-length c mW w j,
+        ))

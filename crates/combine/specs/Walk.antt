@@ -3,7 +3,7 @@ use mathlib.Core.Path.{_≡_}
 use mathlib.Core.Bool.{true}
 use mathlib.Core.List.{List, _++_, map, List·Memᴰ as Mem}
 use Prim.Native.Nat.{ℕ, _+_, _*_, _-_, _≤_, _<_}
-use lib.ListN.{length, take}
+use lib.ListN.{length, take, drop}
 use Rattle.model.specs.Cell.{CellEdit}
 use Rattle.model.specs.Layer.{change, at, Layer, rowsAfter}
 use Rattle.model.specs.Form.{sound, zeros}
@@ -12,10 +12,11 @@ use Rattle.model.specs.declared.Entry.{Entry}
 use Rattle.model.specs.declared.Answer.the-variants.{Done}
 use Rattle.model.specs.Calls.{formAnswer}
 
--- the numbers ys stand from o on, behind what stood before o
+-- the numbers ys stand from o on, and all else is as it was
 pub record Put (ys old : List ℕ) (o : ℕ) (new : List ℕ) : Type 0 where
   pub size : length new ≡ length old
   pub front : take (o + length ys) new ≡ take o old ++ ys
+  pub behind : drop (o + length ys) new ≡ drop (o + length ys) old
 
 -- an entry of a slice that breaks no rule alone, over n rows
 pub record Sound (c from : ℕ) (xs : List ℕ) (n : ℕ) : Type 0 where
@@ -39,11 +40,10 @@ pub record Uppers (c m from : ℕ) (xs : List ℕ) (strikes o len : ℕ) : Type 
   pub zeroed : (e : Entry) → Mem e (entriesAt c m from xs) → zeros e ≡ true
   pub below : (e : Entry) → Mem e (entriesAt c m from xs) → e .pos ≤ 4096
 
--- both layers are in form, the upper over as many rows as the lower leaves, and there is room for the entries of both
-pub record Both (c : ℕ) (K N : List ℕ) (mR : ℕ) (R : List ℕ) (mW : ℕ) (W : List ℕ) (len : ℕ) : Type 0 where
+-- both layers are in form, the upper over as many rows as the lower leaves
+pub record Both (c : ℕ) (K N : List ℕ) (mR : ℕ) (R : List ℕ) (mW : ℕ) (W : List ℕ) : Type 0 where
   pub lower : formAnswer c (length K) mR R ≡ Done (length N)
   pub upper : formAnswer c (length N) mW W ≡ Done (rowsAfter (length N) (layerOf c mW W))
-  pub room : (mR + mW) * (c + 2) ≤ len
 
 -- the entries of a slice from number i on, and the same as edits
 abbrev pub entriesLeft : ℕ → ℕ → ℕ → List ℕ → List Entry
@@ -64,9 +64,8 @@ pub record Rest (c mR i : ℕ) (R : List ℕ) (mW j : ℕ) (W : List ℕ) (strik
   pub upper-zeroed : (e : Entry) → Mem e (entriesLeft c mW j W) → zeros e ≡ true
   pub below : (e : Entry) → Mem e (entriesLeft c mW j W) → e .pos ≤ 4096
 
--- the layer M, of m entries, stands at the front of the buffer
+-- the layer M, of m entries, stands at the front of the slice, and behind it what stood there
 pub record Woven (c : ℕ) (M : Layer) (m : ℕ) (old new : List ℕ) : Type 0 where
   pub size : length new ≡ length old
   pub entries : length M ≡ m
-  pub fits : length (flat c M) ≤ length new
-  pub front : take (length (flat c M)) new ≡ flat c M
+  pub all : new ≡ flat c M ++ drop (length (flat c M)) old

@@ -1,4 +1,5 @@
-// Two layers into one: a walk along both by key, into a buffer of its own; what it leaves goes into the third slice.
+// Two layers into one: a walk along both by key, straight into the third slice once it is known that there is room.
+mod tally;
 mod weave;
 
 use model::Answer;
@@ -11,7 +12,7 @@ ghost use Rattle.model.specs.declared.Answer.the-variants.{Refused};
 ghost use Rattle.model.specs.Refusals.{refusal};
 ghost use Rattle.model.specs.Raw.{flat, room};
 ghost use Rattle.model.specs.Calls.{combineAnswer, combinedLayer, written};
-ghost use Rattle.combine.specs.Rows.{joinAnswer, fitsAnswer, Forms, Fits};
+ghost use Rattle.combine.specs.Rows.{joinAnswer, upperAnswer, fitsAnswer, Forms, LowerFits, Fits};
 
 // The room of a slice of len numbers: the smaller of 512 and the whole entries that it can hold.
 fn room_of(c: usize, len: usize) -> usize
@@ -32,7 +33,7 @@ fn refused(number: u64, place: usize) -> Answer
     Answer::Refused(Refusal { number, place })
 }
 
-// Joins two layers that fit, in a buffer of its own, and copies the result where there is room for it.
+// Joins two layers that fit in the third slice, where there is room for the result.
 fn join(
     c: usize,
     keys: &[u64],
@@ -49,17 +50,38 @@ fn join(
         × (now (out .exit) ≡ written a (flat c (combinedLayer c (now (keys .entry)) mr (now (r .entry)) mw (now (w .entry))))
         (now (out .entry))) ⌝ }
 {
-    let mut to: [u64; 10240] = [0; 10240];
-    let m = weave::weave(c, keys, mid, mr, r, mw, w, &mut to);
-    if room_of(c, out.len()) < m {
+    let room = room_of(c, out.len());
+    if tally::more_than(room, c, keys, mid, mr, r, mw, w) {
         return refused(9, 0);
     }
-    let end = m * (c + 2);
-    run::copy_in(&to[..end], out, 0);
-    Answer::Done(m)
+    Answer::Done(weave::weave(c, keys, mid, mr, r, mw, w, out))
 }
 
-// Joins two layers in form where the keys ascend and both fit, the upper one to the keys that the lower leaves.
+// Joins two layers where the upper one fits the keys that the lower leaves.
+fn fit_upper(
+    c: usize,
+    keys: &[u64],
+    mid: &[u64],
+    mr: usize,
+    r: &[u64],
+    mw: usize,
+    w: &[u64],
+    out: &mut [u64],
+) -> Answer
+    requires { ⌜ LowerFits c (now keys) (now mid) mr (now r) mw (now w) ⌝ }
+    ensures { λ a. ⌜ (a ≡ upperAnswer c (now (keys .entry)) mr (now (r .entry)) mw (now (w .entry))
+        (length (now (out .entry))))
+        × (now (out .exit) ≡ written a (flat c (combinedLayer c (now (keys .entry)) mr (now (r .entry)) mw (now (w .entry))))
+        (now (out .entry))) ⌝ }
+{
+    let q = form::fit_place(c, mw, w, mid);
+    if q < mw {
+        return refused(4, 1000 + q);
+    }
+    join(c, keys, mid, mr, r, mw, w, out)
+}
+
+// Joins two layers in form where the keys ascend and both fit. An empty lower layer leaves the base's own keys.
 fn fit_both(
     c: usize,
     keys: &[u64],
@@ -82,13 +104,12 @@ fn fit_both(
     if p < mr {
         return refused(4, p);
     }
+    if mr == 0 {
+        return fit_upper(c, keys, keys, mr, r, mw, w, out);
+    }
     let mut mid: [u64; 4096] = [0; 4096];
     let rows = read::read_part(c, mr, r, keys, 0, &mut mid);
-    let q = form::fit_place(c, mw, w, &mid[..rows]);
-    if q < mw {
-        return refused(4, 1000 + q);
-    }
-    join(c, keys, &mid[..rows], mr, r, mw, w, out)
+    fit_upper(c, keys, &mid[..rows], mr, r, mw, w, out)
 }
 
 // Combines the lower layer R over the base keys and the upper layer W over what R shows into one layer over the base,

@@ -59,7 +59,7 @@ fn key_at(c: usize, at: usize, layer: &[u64], keys: &[u64]) -> u64
 }
 
 // The next step, for the lower layer's entry from `at` and the upper's from `bt`.
-fn next_step(
+pub fn next_step(
     c: usize,
     at: usize,
     r: &[u64],
@@ -211,7 +211,7 @@ fn one_if(b: bool) -> u64
     if b { 1 } else { 0 }
 }
 
-// Walks along both layers, writes the entries that they make together to the front of the buffer, and returns how many
+// Walks along both layers, writes the entries that they make together to the front of the slice, and returns how many
 // there are.
 pub fn weave(
     c: usize,
@@ -223,7 +223,9 @@ pub fn weave(
     w: &[u64],
     out: &mut [u64],
 ) -> usize
-    requires { ⌜ Both c (now keys) (now mid) mr (now r) mw (now w) (length (now out)) ⌝ }
+    requires { ⌜ Both c (now keys) (now mid) mr (now r) mw (now w)
+        × (length (wovenLayer (now keys) (now mid) (layerOf c mr (now r)) (layerOf c mw (now w))) * (c + 2)
+        ≤ length (now out)) ⌝ }
     ensures { λ m. ⌜ Woven c (wovenLayer (now (keys .entry)) (now (mid .entry)) (layerOf c mr (now (r .entry)))
         (layerOf c mw (now (w .entry)))) m (now (out .entry)) (now (out .exit)) ⌝ }
 {

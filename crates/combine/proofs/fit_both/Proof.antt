@@ -15,16 +15,8 @@ use Rattle.model.specs.Raw.{layerOf, flat}
 use Rattle.model.specs.Fit.{fitPlace}
 use Rattle.model.specs.Read.{keysAfter}
 use Rattle.model.specs.Calls.{combinedLayer, written}
-use Rattle.combine.proofs.Joining.{upper-form}
-use Rattle.combine.proofs.Answering.{
-  keys-refused,
-  lower-refused,
-  upper-refused,
-  join-answer,
-  can-read,
-  upper-few,
-  mid-keys,
-}
+use Rattle.combine.specs.Rows.{upperAnswer, fitsAnswer, LowerFits}
+use Rattle.combine.proofs.Answering.{keys-refused, lower-refused, upper-answer, can-read, empty-lower, mid-keys}
 use borrow.Author.Needs.{needs}
 use Rattle.combine.proofs.fit_both.Statement.{statement}
 use Rattle.combine.proofs.fit_both.Tie as tie
@@ -47,7 +39,7 @@ lower-fits c = omega (arith, c .if2 .left, c .before .fit-place .ensures)
 -- the front of the buffer is the key column after the lower layer
 module _ (c : tie.After-read-part) where
   abbrev shown : List ℕ
-  shown = let a = c .before .before .before .before .before .before .before .before .before .before .args in keysAfter
+  shown = let a = c .before .before .before .before .before .before .before .before .before .before .before .args in keysAfter
       (a .keys .now) (layerOf (a .c) (a .mr) (a .r .now))
 
   abbrev buffer : List ℕ
@@ -64,13 +56,6 @@ module _ (c : tie.After-read-part) where
 
   mid-length : c .read-part .result ≡ length mid
   mid-length = sym (length-take-le (c .read-part .result) buffer rows-fit)
-
--- the upper layer fits it
-upper-fits : (c : tie.Else3) →
-    let a =
-    c .before .before .before .before .before .before .before .before .before .before .before .before .before .before .args in
-    a .mw ≤ fitPlace (mid (c .before .before .before .before)) (layerOf (a .c) (a .mw) (a .w .now))
-upper-fits c = omega (arith, c .if3 .left, c .before .fit-place2 .ensures)
 
 keys-ascend-requires : tie.Need-keys-ascend-requires
 keys-ascend-requires c κs = search needs
@@ -105,87 +90,65 @@ returns-2 c =
       ap (After s) (sym (c .refused2 .ensures)),
     )
 
-slice-aggregate-read-part : tie.Need-slice-aggregate-read-part
-slice-aggregate-read-part c = search needs
+-- the lower layer fits, and the rest of the table is the upper's
+lower-known : (c : tie.Else2) →
+    let a = c .before .before .before .before .before .before .before .before .args in
+    (N : List ℕ) → N ≡ keysAfter (a .keys .now) (layerOf (a .c) (a .mr) (a .r .now))
+    → LowerFits (a .c) (a .keys .now) N (a .mr) (a .r .now) (a .mw) (a .w .now)
+lower-known c N e = record {
+  forms = c .before .before .before .before .before .before .before .before .pre;
+  rising = rising (c .before .before);
+  lower = lower-fits c;
+  mid = e;
+}
 
-read-part-requires : tie.Need-read-part-requires
-read-part-requires c κs = can-read (c .before .before .before .before .before .before .before .before .before .pre)
+lower-passed : (c : tie.Else2) →
+    let a = c .before .before .before .before .before .before .before .before .args in
+    upperAnswer (a .c) (a .keys .now) (a .mr) (a .r .now) (a .mw) (a .w .now) (length (a .out .now))
+    ≡ fitsAnswer (a .c) (a .keys .now) (a .mr) (a .r .now) (a .mw) (a .w .now) (length (a .out .now))
+lower-passed c =
+    let a = c .before .before .before .before .before .before .before .before .args in
+    upper-answer (a .c) (a .keys .now) (a .mr) (a .r .now) (a .mw) (a .w .now) (length (a .out .now))
+    (rising (c .before .before)) (lower-fits c)
 
-array-share-prefix-mid : tie.Need-array-share-prefix-mid
-array-share-prefix-mid c = rows-fit (c .before)
-
-slice-aggregate-fit-place : tie.Need-slice-aggregate-fit-place
-slice-aggregate-fit-place c = mid-length (c .before .before)
-
-fit-place-requires-2 : tie.Need-fit-place-requires-2
-fit-place-requires-2 c κs =
-    let r = c .before .before in
-    upper-form (c .before .before .before .before .before .before .before .before .before .before .before .before .pre)
-    (mid r) (mid-is r)
-
-add-refused : tie.Need-add-refused
-add-refused c =
-    omega (
-      arith,
-      c .if3 .taken,
-      upper-few
-          (c .before .before .before .before .before .before .before .before .before .before .before .before .before .before .pre),
-    )
-
-refused-requires-3 : tie.Need-refused-requires-3
-refused-requires-3 c κs = search needs
-
-returns-3 : tie.Need-returns-3
-returns-3 c =
-    let s =
-    c .before .before .before .before .before .before .before .before .before .before .before .before .before .before .before in
-    let a = s .args in
-    let r = c .before .before .before .before .before in
-    let e = c .before .before .before .before .before .before .before in
-    let f = c .before .before .fit-place2 in (
-      c .refused3 .ensures
-          ∙ upper-refused (a .c) (a .keys .now) (a .mr) (a .r .now) (a .mw) (a .w .now) (length (a .out .now))
-          (rising (e .before .before)) (lower-fits e) (mid r) (mid-is r) (f .result) (f .ensures)
-          (c .before .if3 .taken),
-      ap (After s) (sym (c .refused3 .ensures)),
-    )
-
-array-share-prefix-mid-2 : tie.Need-array-share-prefix-mid-2
-array-share-prefix-mid-2 c = rows-fit (c .before .before .before .before)
-
-slice-aggregate-join : tie.Need-slice-aggregate-join
-slice-aggregate-join c = mid-length (c .before .before .before .before .before)
-
-join-requires : tie.Need-join-requires
-join-requires c κs =
-    let u = c .before .before in
-    let r = c .before .before .before .before .before .before in
-    let e = c .before .before .before .before .before .before .before .before in
-    record {
-      forms =
-          c .before .before .before .before .before .before .before .before .before .before .before .before .before .before .before .before .pre;
-      rising = rising (e .before .before);
-      lower = lower-fits e;
-      mid = mid-is r;
-      upper = upper-fits u;
-    }
+fit-upper-requires : tie.Need-fit-upper-requires
+fit-upper-requires c κs =
+    let e = c .before .before in
+    let a = c .before .before .before .before .before .before .before .before .before .before .args in
+    lower-known e (a .keys .now) (empty-lower (a .c) (a .mr) (a .keys .now) (a .r .now) (c .before .if3 .taken))
 
 same-length : tie.Need-same-length
 same-length c = search needs
 
+returns-3 : tie.Need-returns-3
+returns-3 c =
+    let f = c .before .before .fit-upper in
+    (f .ensures .0 ∙ lower-passed (c .before .before .before .before .before), f .ensures .1)
+
+slice-aggregate-read-part : tie.Need-slice-aggregate-read-part
+slice-aggregate-read-part c = search needs
+
+read-part-requires : tie.Need-read-part-requires
+read-part-requires c κs = can-read (c .before .before .before .before .before .before .before .before .before .before .pre)
+
+array-share-prefix-mid : tie.Need-array-share-prefix-mid
+array-share-prefix-mid c = rows-fit (c .before)
+
+slice-aggregate-fit-upper : tie.Need-slice-aggregate-fit-upper
+slice-aggregate-fit-upper c = mid-length (c .before .before)
+
+fit-upper-requires-2 : tie.Need-fit-upper-requires-2
+fit-upper-requires-2 c κs =
+    let r = c .before .before .before in
+    lower-known (c .before .before .before .before .before .before) (mid r) (mid-is r)
+
+same-length-2 : tie.Need-same-length-2
+same-length-2 c = search needs
+
 returns-4 : tie.Need-returns-4
 returns-4 c =
-    let a =
-    c .before .before .before .before .before .before .before .before .before .before .before .before .before .before .before .before .before .before .before .args in
-    let r = c .before .before .before .before .before .before .before .before .before in
-    let e = c .before .before .before .before .before .before .before .before .before .before .before in
-    let u = c .before .before .before .before .before in
-    let f = c .before .before .join in (
-      f .ensures .0
-          ∙ join-answer (a .c) (a .keys .now) (a .mr) (a .r .now) (a .mw) (a .w .now) (length (a .out .now))
-          (rising (e .before .before)) (lower-fits e) (mid r) (mid-is r) (upper-fits u),
-      f .ensures .1,
-    )
+    let f = c .before .before .fit-upper2 in
+    (f .ensures .0 ∙ lower-passed (c .before .before .before .before .before .before .before .before .before), f .ensures .1)
 
 pub fit-both-spec : {M : Type 1} → statement M
 fit-both-spec =
@@ -197,16 +160,13 @@ fit-both-spec =
     fit-place-requires
     refused-requires-2
     returns-2
+    fit-upper-requires
+    same-length
+    returns-3
     slice-aggregate-read-part
     read-part-requires
     array-share-prefix-mid
-    slice-aggregate-fit-place
-    fit-place-requires-2
-    add-refused
-    refused-requires-3
-    returns-3
-    array-share-prefix-mid-2
-    slice-aggregate-join
-    join-requires
-    same-length
+    slice-aggregate-fit-upper
+    fit-upper-requires-2
+    same-length-2
     returns-4)

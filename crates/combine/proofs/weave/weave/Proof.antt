@@ -4,7 +4,7 @@
 -- Assumes nothing.
 use borrow.Author.Needs.{needs}
 use native.Mathlib.Omega.{arith}
-use mathlib.Core.Path.{sym, _∙_}
+use mathlib.Core.Path.{refl, sym, _∙_}
 use Prim.Native.Nat.{_+_, _*_, _-_, _≤_, _<_}
 use lib.ListN.{length, getD}
 use lib.Dec.{ltb}
@@ -16,17 +16,23 @@ use Rattle.form.proofs.Accepted.{Accepted, accepted}
 use Rattle.combine.specs.Woven.{wovenLayer}
 use Rattle.combine.specs.Walk.{Woven}
 use Rattle.combine.proofs.Walking.{
-  Walking,
-  set-out,
-  offset,
   lower-room,
   upper-room,
-  there,
   lower-alone,
   upper-alone,
   upper-low,
   runs,
   ahead,
+  lower-goes,
+  next-upper,
+  next-here,
+  next-patch,
+}
+use Rattle.combine.proofs.Writing.{
+  Walking,
+  set-out,
+  offset,
+  room-for,
   on-lower,
   on-upper,
   on-here,
@@ -51,7 +57,7 @@ low-at : (s : tie.Start Inv-loop μ-loop) → let a = s .args in
     Accepted (a .c) (length (a .keys .now)) (a .mr) (a .r .now) (length (a .mid .now))
 low-at s =
     let a = s .args in
-    accepted (a .c) (length (a .keys .now)) (a .mr) (a .r .now) (length (a .mid .now)) (s .pre .lower)
+    accepted (a .c) (length (a .keys .now)) (a .mr) (a .r .now) (length (a .mid .now)) (s .pre .0 .lower)
 
 up-at : (s : tie.Start Inv-loop μ-loop) → let a = s .args in
     Accepted (a .c) (length (a .mid .now)) (a .mw) (a .w .now)
@@ -59,7 +65,7 @@ up-at : (s : tie.Start Inv-loop μ-loop) → let a = s .args in
 up-at s =
     let a = s .args in
     accepted (a .c) (length (a .mid .now)) (a .mw) (a .w .now)
-    (rowsAfter (length (a .mid .now)) (layerOf (a .c) (a .mw) (a .w .now))) (s .pre .upper)
+    (rowsAfter (length (a .mid .now)) (layerOf (a .c) (a .mw) (a .w .now))) (s .pre .0 .upper)
 
 -- within the loop
 module _ (c : tie.In-loop Inv-loop μ-loop) where
@@ -75,8 +81,10 @@ module _ (c : tie.In-loop Inv-loop μ-loop) where
       (rowsAfter (length (a .mid .now)) (layerOf (a .c) (a .mw) (a .w .now)))
   up = up-at start
 
-  space : let a = start .args in (a .mr + a .mw) * (a .c + 2) ≤ length (a .out .now)
-  space = start .pre .room
+  space : let a = start .args in
+      length (wovenLayer (a .keys .now) (a .mid .now) (layerOf (a .c) (a .mr) (a .r .now))
+      (layerOf (a .c) (a .mw) (a .w .now))) * (a .c + 2) ≤ length (a .out .now)
+  space = start .pre .1
 
   inside : (c .before .loop .i < start .args .mr) × (c .before .loop .j < start .args .mw)
   inside =
@@ -86,21 +94,18 @@ module _ (c : tie.In-loop Inv-loop μ-loop) where
         ltb-true (l .j) (a .mw) (and-r (ltb (l .i) (a .mr)) (ltb (l .j) (a .mw)) (c .loop-test .taken)),
       )
 
-  -- the next entries, and the place of the one to be written, lie in their slices
+  -- the next entries lie in their slices
   lower-here : let a = start .args in c .before .loop .i * (a .c + 2) + (a .c + 2) ≤ length (a .r .now)
-  lower-here = lower-room low up space (c .before .loop .inv) (inside .0) (inside .1)
+  lower-here = lower-room low up (c .before .loop .inv .walked) (inside .0) (inside .1)
 
   upper-here : let a = start .args in c .before .loop .j * (a .c + 2) + (a .c + 2) ≤ length (a .w .now)
-  upper-here = upper-room low up space (c .before .loop .inv) (inside .0) (inside .1)
+  upper-here = upper-room low up (c .before .loop .inv .walked) (inside .0) (inside .1)
 
-  room-here : let a = start .args in c .before .loop .m * (a .c + 2) + (a .c + 2) ≤ length (c .before .loop .out)
-  room-here = there low up space (c .before .loop .inv) (inside .0) (inside .1)
-
-  out-here : let a = start .args in c .before .loop .m * (a .c + 2) + (a .c + 2) ≤ length (a .out .now)
-  out-here = omega (arith, room-here, c .before .loop .inv .size)
+  out-here : let a = start .args in c .before .loop .m * (a .c + 2) ≤ length (a .out .now)
+  out-here = omega (arith, offset low up space (c .before .loop .inv), c .before .loop .inv .size)
 
   low-here : let a = start .args in getD (a .w .now) (c .before .loop .j * (a .c + 2)) 0 ≤ 4096
-  low-here = upper-low low up space (c .before .loop .inv) (inside .0) (inside .1)
+  low-here = upper-low low up (c .before .loop .inv .walked) (inside .0) (inside .1)
 
   -- the counters stay small
   counts : (c .before .loop .i < 512) × (c .before .loop .j < 512) × (c .before .loop .m ≤ 1024)
@@ -109,9 +114,9 @@ module _ (c : tie.In-loop Inv-loop μ-loop) where
       let g = c .before .loop .inv in (
         omega (arith, inside .0, low .held .entries),
         omega (arith, inside .1, up .held .entries),
-        omega (arith, g .few, low .held .entries, up .held .entries),
-        omega (arith, g .few-adds, inside .0, low .held .entries),
-        omega (arith, g .few-strikes, inside .0, low .held .entries),
+        omega (arith, g .walked .few, low .held .entries, up .held .entries),
+        omega (arith, g .walked .few-adds, inside .0, low .held .entries),
+        omega (arith, g .walked .few-strikes, inside .0, low .held .entries),
       )
 
 -- after the loop
@@ -121,7 +126,7 @@ totals : (c : tie.At-loop Inv-loop μ-loop) → let l = c .loop in let a =
 totals c =
     let g = c .loop .inv in
     let s = c .before .before .before .before .before .before in
-    (g .lower-upto, g .upper-upto, omega (arith, g .few, low-at s .held .entries, up-at s .held .entries))
+    (g .walked .lower-upto, g .walked .upper-upto, omega (arith, g .walked .few, low-at s .held .entries, up-at s .held .entries))
 
 all-there : (c : tie.After-slice-known6 Inv-loop μ-loop) → let l = c .before .before .before .before .before .loop in
     let a = c .before .before .before .before .before .before .before .before .before .before .before .args in
@@ -132,7 +137,7 @@ all-there : (c : tie.After-slice-known6 Inv-loop μ-loop) → let l = c .before 
 all-there c =
     let s = c .before .before .before .before .before .before .before .before .before .before .before in
     let f = c .before .before .finish in
-    ended (low-at s) (up-at s) (s .pre .room) (c .before .before .before .before .before .loop .inv)
+    ended (low-at s) (up-at s) (s .pre .1) (c .before .before .before .before .before .loop .inv)
     (c .before .before .before .before .loop-test .left) (f .last .1 .1 .1 .1 .1 .1 .1 .1 .1 .0) (f .ensures)
 
 add-wide : tie.Need-add-wide Inv-loop μ-loop
@@ -154,8 +159,8 @@ mul-o c = omega (arith, out-here c, c .before .before .before .before .before .b
 
 next-step-requires : tie.Need-next-step-requires Inv-loop μ-loop
 next-step-requires c κs = (
-  lower-alone (low c) (up c) (space c) (c .before .loop .inv) (inside c .0) (inside c .1),
-  upper-alone (low c) (up c) (space c) (c .before .loop .inv) (inside c .0) (inside c .1),
+  lower-alone (low c) (up c) (c .before .loop .inv .walked) (inside c .0) (inside c .1),
+  upper-alone (low c) (up c) (c .before .loop .inv .walked) (inside c .0) (inside c .1),
 )
 
 enum-told : tie.Need-enum-told Inv-loop μ-loop
@@ -168,7 +173,13 @@ shared-slice-read-put-entry : tie.Need-shared-slice-read-put-entry Inv-loop μ-l
 shared-slice-read-put-entry c = omega (arith, lower-here (c .before .before .before .before))
 
 put-entry-requires : tie.Need-put-entry-requires Inv-loop μ-loop
-put-entry-requires c κs = let t = c .before .before .before .before .before in (lower-here t, room-here t)
+put-entry-requires c κs =
+    let t = c .before .before .before .before .before in (
+      lower-here t,
+      room-for (low t) (up t) (space t) (t .before .loop .inv)
+          (lower-goes (low t) (up t) (t .before .loop .inv .walked) (inside t .0) (inside t .1)
+          (sym (c .before .before .enum-told .given .1) ∙ c .before .before .before .before .next-step .ensures)),
+    )
 
 add-one-if : tie.Need-add-one-if Inv-loop μ-loop
 add-one-if c = omega (arith, lower-here (c .before .before .before .before .before .before .before .before))
@@ -254,7 +265,14 @@ rebase-requires : tie.Need-rebase-requires Inv-loop μ-loop
 rebase-requires c κs = let t = c .before .before .before .before in (low-here t, omega (arith, counts t))
 
 put-entry-requires-2 : tie.Need-put-entry-requires-2 Inv-loop μ-loop
-put-entry-requires-2 c κs = let t = c .before .before .before .before .before .before in (upper-here t, room-here t)
+put-entry-requires-2 c κs =
+    let t = c .before .before .before .before .before .before in (
+      upper-here t,
+      room-for (low t) (up t) (space t) (t .before .loop .inv)
+          (next-upper (low t) (up t) (t .before .loop .inv .walked) (inside t .0) (inside t .1)
+          (sym (c .before .before .before .enum-told2 .given .1)
+          ∙ c .before .before .before .before .before .next-step .ensures)),
+    )
 
 add-j : tie.Need-add-j Inv-loop μ-loop
 add-j c = omega (arith, counts (c .before .before .before .before .before .before .before .before .before))
@@ -285,7 +303,13 @@ shared-slice-read-put-entry-2 : tie.Need-shared-slice-read-put-entry-2 Inv-loop 
 shared-slice-read-put-entry-2 c = omega (arith, lower-here (c .before .before .before .before))
 
 put-entry-requires-3 : tie.Need-put-entry-requires-3 Inv-loop μ-loop
-put-entry-requires-3 c κs = let t = c .before .before .before .before .before in (upper-here t, room-here t)
+put-entry-requires-3 c κs =
+    let t = c .before .before .before .before .before in (
+      upper-here t,
+      room-for (low t) (up t) (space t) (t .before .loop .inv)
+          (next-here (low t) (up t) (t .before .loop .inv .walked) (inside t .0) (inside t .1)
+          (sym (c .before .before .enum-told3 .given .1) ∙ c .before .before .before .before .next-step .ensures)),
+    )
 
 add-j-2 : tie.Need-add-j-2 Inv-loop μ-loop
 add-j-2 c = omega (arith, counts (c .before .before .before .before .before .before .before .before))
@@ -345,15 +369,17 @@ enum-told-6 : tie.Need-enum-told-6 Inv-loop μ-loop
 enum-told-6 c = search needs
 
 sub-put-patched : tie.Need-sub-put-patched Inv-loop μ-loop
-sub-put-patched c = omega (arith, c .before .before .before .before .loop .inv .upper-upto)
+sub-put-patched c = omega (arith, c .before .before .before .before .loop .inv .walked .upper-upto)
 
 put-patched-requires : tie.Need-put-patched-requires Inv-loop μ-loop
 put-patched-requires c κs =
     let t = c .before .before .before .before in (
       lower-here t,
       upper-here t,
-      room-here t,
-      runs (low t) (up t) (space t) (t .before .loop .inv) (inside t .0)
+      room-for (low t) (up t) (space t) (t .before .loop .inv)
+          (next-patch (low t) (up t) (t .before .loop .inv .walked) (inside t .0) (inside t .1)
+          (sym (c .before .enum-told6 .given .1) ∙ c .before .before .before .next-step .ensures) _ refl),
+      runs (low t) (up t) (t .before .loop .inv .walked) (inside t .0)
           (inside t .1),
     )
 
@@ -363,7 +389,7 @@ add-j-4 c =
     omega (
       arith,
       counts t,
-      ahead (low t) (up t) (space t) (t .before .loop .inv) (inside t .0) (inside t .1),
+      ahead (low t) (up t) (t .before .loop .inv .walked) (inside t .0) (inside t .1),
       c .before .before .put-patched .ensures .0,
     )
 
@@ -394,14 +420,14 @@ mul-finish c =
     let s = c .before .before .before .before .before .before .before .before in
     omega (
       arith,
-      offset (low-at s) (up-at s) (s .pre .room) (l .inv) (l .m) (omega (arith, l .inv .few)),
+      offset (low-at s) (up-at s) (s .pre .1) (l .inv),
       l .inv .size,
       s .good,
     )
 
 finish-requires : tie.Need-finish-requires Inv-loop μ-loop
 finish-requires c κs = let s = c .before .before .before .before .before .before .before .before in rests (low-at s)
-    (up-at s) (s .pre .room) (c .before .before .loop .inv)
+    (up-at s) (s .pre .1) (c .before .before .loop .inv) (c .before .loop-test .left)
 
 sub-result : tie.Need-sub-result Inv-loop μ-loop
 sub-result c = omega (arith, totals (c .before .before .before .before .before))
