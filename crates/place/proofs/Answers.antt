@@ -1,6 +1,6 @@
 -- The answers of the three calls, case by case: refused as the form check refuses, else by their own tests.
 -- Assumes nothing.
-use Prim.Native.Nat.{ℕ, _+_, _≤_, _<_}
+use Prim.Native.Nat.{ℕ, zero, suc, _+_, _-_, _≤_, _<_}
 use native.Mathlib.Omega.{arith}
 use mathlib.Core.Path.{_≡_, refl, sym, ap, _∙_}
 use mathlib.Core.Bool.{Bool, true, false, not, cond, _&&_, and-true, and-false}
@@ -16,11 +16,13 @@ use Rattle.model.specs.declared.Answer.the-variants.{Done, Refused}
 use Rattle.model.specs.declared.Shifted.the-variants as shifted
 use Rattle.model.specs.declared.Back.the-variants as backed
 use Rattle.model.specs.Layer.{rowsAfter}
-use Rattle.model.specs.Raw.{Held, layerOf, entriesOf}
+use Rattle.model.specs.Raw.{Held, layerOf, entriesOf, entriesAt}
 use Rattle.model.specs.Form.{inOrder, argsOk, formPlace}
 use Rattle.model.specs.Position.{shift, rowOf, back}
 use Rattle.model.specs.Refusals.{Test, firstMet, refusal, badArgs, badForm, badRow, breaksForm}
 use Rattle.model.specs.Calls.{formAnswer, shiftAnswer, rowAnswer, backAnswer, originAnswer}
+use Rattle.form.specs.Scan.{goodFrom}
+use Rattle.form.proofs.Formed.{counted}
 use Rattle.form.proofs.Accepted.{Accepted, accepted}
 use Rattle.place.specs.Checked.{checkedAt}
 use Rattle.model.proofs.Raw.{layer-length}
@@ -47,6 +49,15 @@ module _ {A : Type 0} (wrap : Refusal → A) where
       handed ok (breaksForm c n m xs) (refusal 1 0) (refusal 2 (0 + formPlace c n (entriesOf c m xs)))
       (rowsAfter n (layerOf c m xs))
       (firstMet wrap rest z)
+
+-- an empty layer whose arguments pass is in form, and its rows are those of the base
+pub empty-done : (c n m : ℕ) (xs : List ℕ) → m ≡ 0 → argsOk c n m (length xs) ≡ true → Done n ≡ formAnswer c n m xs
+unfolding entriesAt goodFrom
+empty-done c n zero xs z ok =
+    let k = counted c n 0 xs ok 0 0 0 (omega arith) (refl, refl, refl) in
+    let e : n ≡ (n + 0) - 0 = omega arith in
+    ap Done e ∙ k .accept (omega (arith, k .base))
+empty-done c n (suc m) xs z ok = absurd (omega (arith, z))
 
 -- the check with a position
 module _ (c n m : ℕ) (xs : List ℕ) (s : ℕ) where

@@ -15,7 +15,7 @@ ghost use Rattle.model.specs.Raw.{Held, layerOf};
 ghost use Rattle.model.specs.Form.{inOrder};
 ghost use Rattle.model.specs.Position.{addUpTo, strikeBefore, shift, rowOf, back};
 ghost use Rattle.place.specs.Checked.{checkedAt};
-ghost use Rattle.model.specs.Calls.{originAnswer, shiftAnswer, rowAnswer, backAnswer};
+ghost use Rattle.model.specs.Calls.{formAnswer, originAnswer, shiftAnswer, rowAnswer, backAnswer};
 
 // By how much a passes b, below zero where it does not.
 fn less(a: usize, b: usize) -> i64
@@ -114,6 +114,22 @@ fn row_at(c: usize, n: usize, m: usize, layer: &[u64], s: usize) -> usize
     shifted(s, shift_at(c, m, layer, s))
 }
 
+// The check of the layer: an empty one has only its arguments to check, which spares it the pass over entries.
+fn check_layer(c: usize, n: usize, m: usize, layer: &[u64]) -> Answer
+    ensures { λ r. ⌜ r ≡ formAnswer c n m (now (layer .entry)) ⌝ }
+{
+    if m == 0 {
+        if form::args_ok(c, n, m, layer.len()) {
+            return Answer::Done(n);
+        }
+        return Answer::Refused(Refusal {
+            number: 1,
+            place: 0,
+        });
+    }
+    form::check(c, n, m, layer)
+}
+
 // The check of the layer, and of a base position s, which is at most n.
 fn check_at(c: usize, n: usize, m: usize, layer: &[u64], s: usize) -> Answer
     ensures { λ r. ⌜ r ≡ checkedAt c n m (now (layer .entry)) s ⌝ }
@@ -124,7 +140,7 @@ fn check_at(c: usize, n: usize, m: usize, layer: &[u64], s: usize) -> Answer
             place: 0,
         });
     }
-    form::check(c, n, m, layer)
+    check_layer(c, n, m, layer)
 }
 
 // The shift at base position s, 0 to n: adds up to and including s, less strikes before s.
@@ -153,7 +169,7 @@ pub fn row(c: usize, n: usize, m: usize, layer: &[u64], s: usize) -> Answer
 pub fn back(c: usize, n: usize, m: usize, layer: &[u64], r: usize) -> Back
     ensures { λ o. ⌜ o ≡ backAnswer c n m (now (layer .entry)) r ⌝ }
 {
-    let f = form::check(c, n, m, layer);
+    let f = check_layer(c, n, m, layer);
     match f {
         Answer::Done(rows) => {
             if rows <= r {

@@ -15,10 +15,10 @@ use Rattle.place.proofs.back.Tie as tie
 known : (c : tie.After-f) →
     let a = c .before .before .before .before .args in
     Accepted (a .c) (a .n) (a .m) (a .layer .now) (c .f .given .0 .0)
-known c = accepted _ _ _ _ _ (sym (c .before .before .check .ensures) ∙ c .f .given .1)
+known c = accepted _ _ _ _ _ (sym (c .before .before .check-layer .ensures) ∙ c .f .given .1)
 
-check-requires : tie.Need-check-requires
-check-requires c κs = search needs
+check-layer-requires : tie.Need-check-layer-requires
+check-layer-requires c κs = search needs
 
 enum-known-f : tie.Need-enum-known-f
 enum-known-f c = search needs
@@ -30,7 +30,7 @@ returns c =
     let a = h .before .before .args in
     rw (
       back-checked (a .c) (a .n) (a .m) (a .layer .now) (a .r),
-      ← h .check .ensures,
+      ← h .check-layer .ensures,
       f .f .given .1,
       le-leb (rowsAfter (a .n) (layerOf (a .c) (a .m) (a .layer .now))) (a .r)
           (omega (arith, c .if1 .taken, known f .shown)),
@@ -51,7 +51,7 @@ returns-2 c =
     let a = h .before .before .args in
     rw (
       back-checked (a .c) (a .n) (a .m) (a .layer .now) (a .r),
-      ← h .check .ensures,
+      ← h .check-layer .ensures,
       f .f .given .1,
       lt-leb (rowsAfter (a .n) (layerOf (a .c) (a .m) (a .layer .now))) (a .r)
           (omega (arith, c .before .if1 .left, known f .shown)),
@@ -62,13 +62,13 @@ returns-3 : tie.Need-returns-3
 returns-3 c =
     let h = c .before .before .before in
     let a = h .before .before .args in
-    rw (back-checked (a .c) (a .n) (a .m) (a .layer .now) (a .r), ← h .check .ensures, c .before .f2 .given .1)
+    rw (back-checked (a .c) (a .n) (a .m) (a .layer .now) (a .r), ← h .check-layer .ensures, c .before .f2 .given .1)
 
 pub back-spec : {M : Type 1} → statement M
 back-spec =
     tie.close
     (tie.spec
-    check-requires
+    check-layer-requires
     enum-known-f
     returns
     origin-of-requires
