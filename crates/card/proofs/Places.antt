@@ -2,14 +2,13 @@
 -- Assumes nothing.
 use Prim.Native.Nat.{ℕ, _+_, _≤_}
 use native.Mathlib.Omega.{arith}
-use mathlib.Core.Path.{_≡_, refl, sym, ap, _∙_}
+use mathlib.Core.Path.{_≡_, refl, sym, _∙_}
 use mathlib.Core.Bool.{Bool, true, false, not, cond, _&&_}
-use mathlib.Core.List.{List, []}
+use mathlib.Core.List.{List}
 use lib.ListN.{length}
 use lib.IntN.{ℤ, natAbs}
 use lib.Dec.{leb}
 use Rattle.model.specs.Layer.{Layer, rowsAfter}
-use Rattle.order.proofs.Pairs.{broken-le}
 use Rattle.model.specs.declared.Refusal.{Refusal}
 use Rattle.model.specs.declared.Answer.{Answer}
 use Rattle.model.specs.declared.Answer.the-variants.{Done, Refused}
@@ -17,25 +16,17 @@ use Rattle.model.specs.declared.Shifted.{Shifted}
 use Rattle.model.specs.declared.Shifted.the-variants as shifted
 use Rattle.model.specs.declared.Back.{Back}
 use Rattle.model.specs.declared.Back.the-variants as backed
-use Rattle.model.specs.Raw.{layerOf, entriesOf, editOf}
-use Rattle.model.specs.Form.{zeros, sound, follows, formPlace, argsOk}
-use Rattle.model.specs.Position.{Origin, base, added, shift, back}
+use Rattle.model.specs.Raw.{layerOf, entriesOf}
+use Rattle.model.specs.Form.{formPlace, argsOk}
+use Rattle.model.specs.Position.{added, shift, back}
 use Rattle.model.specs.Refusals.{refusal, breaksForm}
 use Rattle.model.specs.Calls.{formAnswer, shiftAnswer, backAnswer, originAnswer}
-use Rattle.model.proofs.Raw.{entries-length, layer-length, args-held}
+use Rattle.model.proofs.Raw.{layer-length, form-place, args-held}
 use Rattle.model.proofs.Position.{back-added}
+use Rattle.model.proofs.Origin.{origin-added}
 use Rattle.form.proofs.Accepted.{accepted}
 use Rattle.place.specs.Checked.{checkedAt}
 use Rattle.place.proofs.Answers.{carried, done-at, shift-checked, shift-small, back-checked}
-
--- the place of a layer that breaks form is an entry's or m
-form-place : (c n m : ℕ) (xs : List ℕ) → formPlace c n (entriesOf c m xs) ≤ m
-unfolding formPlace
-form-place c n m xs = omega (
-  arith,
-  entries-length c m 0 xs,
-  broken-le (λ e. zeros e && sound c n (editOf e)) (λ d e. follows (editOf d) (editOf e)) [] (entriesOf c m xs),
-)
 
 module _ (c n m : ℕ) (xs : List ℕ) (s : ℕ) where
   pub shift-by : (z : ℤ) → shiftAnswer c n m xs s ≡ shifted.By z → natAbs z ≤ 512
@@ -72,14 +63,10 @@ module _ (c n m : ℕ) (xs : List ℕ) (s : ℕ) where
       L : Layer
       L = layerOf c m xs
 
-      of-origin : (o : Origin) → originAnswer o ≡ backed.Added i → o ≡ added i
-      of-origin (base p) g = absurd (let w : _≡_ {A = ℕ} 0 1 = cc in omega arith)
-      of-origin (added h) g = ap added cc
-
       unless-past : (t : Bool) → cond t (backed.Refused (refusal 5 0)) (originAnswer (back n L s)) ≡ backed.Added i
           → back n L s ≡ added i
       unless-past true g = absurd (let w : _≡_ {A = ℕ} 0 1 = cc in omega arith)
-      unless-past false g = of-origin (back n L s) g
+      unless-past false g = origin-added (back n L s) i g
 
       go : (a : Answer) → formAnswer c n m xs ≡ a
           → carried backed.Refused

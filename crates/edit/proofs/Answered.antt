@@ -1,23 +1,20 @@
 -- What each edit answers, once its first four refusals are known.
 -- Assumes nothing.
-use Prim.Native.Nat.{ℕ, _+_, _≤_, _<_}
+use Prim.Native.Nat.{ℕ, _≤_, _<_}
 use native.Mathlib.Omega.{arith}
 use mathlib.Core.Path.{_≡_, refl, sym, _∙_}
-use mathlib.Core.Bool.{Bool, true, false, not, cond, and-true, and-false}
+use mathlib.Core.Bool.{and-true, and-false}
 use mathlib.Core.List.{List, [], _∷_}
 use lib.ListN.{length}
-use lib.Dec.{ltb, eqb}
-use borrow.Author.Tests.{lt-ltb, le-ltb, le-leb, lt-leb, ltb-false, eq-eqb, ne-eqb}
-use Rattle.order.specs.Lists.{ascending}
-use Rattle.order.proofs.Pairs.{broken-le}
+use lib.Dec.{eqb}
+use borrow.Author.Tests.{lt-ltb, le-ltb, le-leb, lt-leb, eq-eqb, ne-eqb}
 use Rattle.model.specs.declared.Refusal.{Refusal}
 use Rattle.model.specs.declared.Answer.{Answer}
 use Rattle.model.specs.declared.Answer.the-variants.{Done, Refused}
 use Rattle.model.specs.Row.{Row, key}
 use Rattle.model.specs.Layer.{Layer, rowsAfter}
-use Rattle.model.specs.Raw.{entriesOf, layerOf}
-use Rattle.model.specs.Form.{argsOk, formPlace}
-use Rattle.model.specs.Fit.{suits, rises, fitPlace, fits}
+use Rattle.model.specs.Raw.{layerOf}
+use Rattle.model.specs.Form.{argsOk}
 use Rattle.model.specs.Refusals.{
   Test,
   refuse,
@@ -31,33 +28,13 @@ use Rattle.model.specs.Refusals.{
   noRoom,
   tooManyRows,
   shownKey,
-  breaksForm,
 }
 use Rattle.model.specs.Read.{keysAfter}
-use Rattle.model.specs.Calls.{
-  formAnswer,
-  fitAnswer,
-  addAnswer,
-  addedLayer,
-  strikeAnswer,
-  struckLayer,
-  changeAnswer,
-  changedLayer,
-}
+use Rattle.model.specs.Calls.{fitAnswer, addAnswer, addedLayer, strikeAnswer, struckLayer, changeAnswer, changedLayer}
 use Rattle.form.proofs.Answers.{onward, after-fit}
+use Rattle.form.proofs.Accepted.{fit-in-form, fitted}
 use Rattle.edit.specs.Ready.{Ready, withRows, readyAnswer}
 use Rattle.edit.specs.Outcome.{countAnswer, addRest}
-
--- none of the four refusals is met
-passed : (a b d e : Bool) (x y : Refusal) {k rows : ℕ}
-    → withRows rows (cond (not a) (Refused (refusal 1 0))
-    (cond b (Refused x) (cond (not d) (Refused (refusal 3 0)) (cond e (Refused y) (Done 0))))) ≡ Done k
-    → (a ≡ true) × (b ≡ false) × (d ≡ true) × (e ≡ false) × (rows ≡ k)
-passed false b d e x y h = absurd (let z : _≡_ {A = ℕ} 0 1 = cc in omega arith)
-passed true true d e x y h = absurd (let z : _≡_ {A = ℕ} 0 1 = cc in omega arith)
-passed true false false e x y h = absurd (let z : _≡_ {A = ℕ} 0 1 = cc in omega arith)
-passed true false true true x y h = absurd (let z : _≡_ {A = ℕ} 0 1 = cc in omega arith)
-passed true false true false x y h = (refl, refl, refl, refl, cc)
 
 module _ (c m : ℕ) (raw K : List ℕ) where
   abbrev L : Layer
@@ -67,19 +44,14 @@ module _ (c m : ℕ) (raw K : List ℕ) where
   shown = rowsAfter (length K) L
 
   pub ready-of : (rows : ℕ) → readyAnswer c m raw K ≡ Done rows → Ready c m raw K × (rows ≡ shown)
-  unfolding readyAnswer fitAnswer formAnswer fits fitPlace
-  ready-of rows h =
-      let p = passed (argsOk c (length K) m (length raw)) (breaksForm c (length K) m raw) (ascending K)
-      (ltb (fitPlace K L) (length L))
-      (refusal 2 (0 + formPlace c (length K) (entriesOf c m raw))) (refusal 4 (0 + fitPlace K L)) h in (
-        record {
-          form = rw (p .0, p .1);
-          keys = p .2;
-          fit = eq-eqb (fitPlace K L) (length L)
-              (omega (arith, ltb-false (fitPlace K L) (length L) (p .3), broken-le (suits K L) rises [] L));
-        },
-        sym (p .4),
-      )
+  unfolding readyAnswer
+  ready-of rows h = by (fitAnswer c m raw K) refl h
+    where
+      by : (a : Answer) → fitAnswer c m raw K ≡ a → withRows shown a ≡ Done rows → Ready c m raw K × (rows ≡ shown)
+      by (Done k) f g =
+          let F = fitted c m raw K f in
+          (record { form = fit-in-form c m raw K f; keys = F .rising; fit = F .fit }, cc)
+      by (Refused x) f g = absurd (let z : _≡_ {A = ℕ} 0 1 = cc in omega arith)
 
   -- the first four rows of an edit's table
   after-ready : (tests : List Test) (z : Answer)

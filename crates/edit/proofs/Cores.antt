@@ -16,7 +16,8 @@ use Rattle.model.specs.Layer.{strike, change, Edit, at, Layer, struck, changesC
 use Rattle.model.specs.Raw.{ADD, STRIKE, strikeEntry, changeEntry, entryAt, editOf, layerOf}
 use Rattle.model.specs.Edits.{strikeBase, changeBase}
 use Rattle.write.specs.Replaced.{entryNumbers, replaced}
-use Rattle.write.proofs.Layers.{sound-wide, strike-numbers, change-numbers}
+use Rattle.model.proofs.Readback.{sound-wide}
+use Rattle.write.proofs.Layers.{strike-numbers, change-numbers}
 use Rattle.edit.specs.Landing.{aim, landing}
 use Rattle.edit.specs.Ready.{entryIs, numberIs}
 use Rattle.edit.specs.Outcome.{countAnswer, ifDone, Entered}

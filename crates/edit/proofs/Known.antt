@@ -6,8 +6,8 @@ use native.Mathlib.Numerals.{add-one}
 use native.Mathlib.Omega.{arith}
 use mathlib.Core.Path.{_≡_, refl, sym, ap, _∙_}
 use mathlib.Core.Bool.{Bool, true, false}
-use mathlib.Core.List.{List, [], _∷_, map}
-use lib.ListN.{length, getD, drop, length-drop, length-map, List·getD-map}
+use mathlib.Core.List.{List, [], _∷_}
+use lib.ListN.{length, getD, drop, length-drop, List·getD-map}
 use lib.Dec.{ltb}
 use borrow.Author.Tests.{ltb-true, ltb-false}
 use lib.Seq.{drop-cons}
@@ -15,33 +15,20 @@ use Rattle.order.specs.Lists.{ascending}
 use Rattle.order.proofs.Tests.{and-l, and-r}
 use Rattle.order.proofs.Ascending.{AscFrom, asc-of, getD-at}
 use Rattle.model.specs.declared.Entry.{Entry}
-use Rattle.model.specs.Row.{Row, Table, key, keys}
+use Rattle.model.specs.Row.{key, keys}
 use Rattle.model.specs.Layer.{Edit, Layer, rowsAfter}
 use Rattle.model.specs.Raw.{none, entryAt, entriesOf, editOf, layerOf}
 use Rattle.model.specs.Read.{read}
 use Rattle.model.specs.Position.{back}
 use Rattle.model.proofs.Raw.{entry-at, layer-length}
+use Rattle.model.proofs.Readback.{sound-wide}
 use Rattle.model.proofs.Fit.{Good, good-of}
 use Rattle.model.proofs.Count.{read-length}
+use Rattle.model.proofs.Column.{singles, keys-singles, singles-length}
 use Rattle.model.proofs.Origin.{Stands, back-row}
 use Rattle.form.proofs.Accepted.{Accepted, accepted}
-use Rattle.write.proofs.Layers.{Written, sound-wide}
+use Rattle.write.proofs.Layers.{Written}
 use Rattle.edit.specs.Ready.{Ready, entryIs, numberIs}
-
--- a key column as a table of one column
-abbrev pub single : ℕ → Row
-single k = k ∷ []
-
-abbrev pub singles : List ℕ → Table
-singles K = map single K
-
-pub keys-singles : (K : List ℕ) → keys (singles K) ≡ K
-unfolding key
-keys-singles [] = refl
-keys-singles (k ∷ K) = ap (λ (t : List ℕ). k ∷ t) (keys-singles K)
-
-pub singles-length : (K : List ℕ) → length (singles K) ≡ length K
-singles-length K = length-map K single
 
 pub record Known (c m : ℕ) (raw K : List ℕ) : Type 0 where
   pub acc : Accepted c (length K) m raw (rowsAfter (length K) (layerOf c m raw))

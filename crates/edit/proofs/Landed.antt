@@ -4,8 +4,8 @@ use Prim.Native.Nat.{ℕ, _+_, _-_, _≤_, _<_}
 use native.Mathlib.Nat.{zero-add, sub-zero}
 use native.Mathlib.Numerals.{add-one}
 use native.Mathlib.Omega.{arith}
-use mathlib.Core.Path.{_≡_, refl, ap}
-use mathlib.Core.Bool.{Bool, true, false, not, cond, _&&_, _||_}
+use mathlib.Core.Path.{_≡_, ap}
+use mathlib.Core.Bool.{Bool, true, false, _&&_, _||_}
 use mathlib.Core.List.{List, [], _∷_, map}
 use lib.ListN.{length, getD, drop, drop-of-length-le}
 use lib.Seq.{drop-cons}
@@ -13,38 +13,23 @@ use lib.Dec.{ltb, eqb}
 use Rattle.order.specs.Lists.{one}
 use Rattle.model.specs.declared.Entry.{Entry}
 use Rattle.model.specs.Row.{key}
-use Rattle.model.specs.Cell.{to}
-use Rattle.model.specs.Layer.{add, strike, change, Edit, Layer}
+use Rattle.model.specs.Layer.{Edit, Layer}
 use Rattle.model.specs.Raw.{ADD, STRIKE, entryAt, entriesAt, editOf, layerOf}
 use Rattle.model.specs.Fit.{keysBelow}
-use Rattle.model.specs.Edits.{deedBefore, before}
+use Rattle.model.specs.Edits.{before}
 use Rattle.model.proofs.Raw.{edits-step, edits-end}
+use Rattle.model.proofs.Edits.{by-kinds}
 use Rattle.edit.specs.Landing.{aim, standsBefore, landing}
 use Rattle.edit.proofs.Splice.{first-le}
 
 -- the test by numbers is the order of the edits
-kind-before : (q k v : ℕ) (vs : List ℕ) (a b x y : Bool)
-    → ((a && (not x || ltb (getD vs 0 0) v)) || (not a && (not b && (not x && (not y && ltb q k)))))
-    ≡ deedBefore (cond a (add vs) (cond b (strike (getD vs 0 0)) (change q (to (getD vs 0 0)))))
-    (cond x (add (v ∷ [])) (cond y (strike v) (change k (to v))))
-unfolding key
-kind-before q k v vs true b true y = or-no (ltb (getD vs 0 0) v)
-  where
-    or-no : (t : Bool) → t || false ≡ t
-    or-no true = refl
-    or-no false = refl
-kind-before q k v vs true b false true = refl
-kind-before q k v vs true b false false = refl
-kind-before q k v vs false true x y = refl
-kind-before q k v vs false false true y = refl
-kind-before q k v vs false false false true = refl
-kind-before q k v vs false false false false = refl
-
 pub stands-is : (e : Entry) (s k v : ℕ) → standsBefore (e .pos) (e .kind) (getD (e .vals) 0 0) s k v ≡ before
     (editOf e) (aim s k v)
+unfolding key
 stands-is e s k v =
     ap (λ (t : Bool). ltb (e .pos) s || (eqb (e .pos) s && t))
-    (kind-before (e .kind) k v (e .vals) (eqb (e .kind) ADD) (eqb (e .kind) STRIKE) (eqb k ADD) (eqb k STRIKE))
+    (by-kinds (eqb (e .kind) ADD) (eqb (e .kind) STRIKE) (eqb k ADD) (eqb k STRIKE) (e .vals) (v ∷ [])
+    (getD (e .vals) 0 0) v (e .kind) k)
 
 -- The entries from number i of m on, the first of which stands at `from`.
 module _ (c m i from : ℕ) (xs : List ℕ) (e : Edit) where

@@ -6,40 +6,37 @@
 use Prim.Native.Nat.{ℕ, _+_, _-_, _*_, _≤_, _<_, max}
 use native.Mathlib.Omega.{arith}
 use mathlib.Core.Path.{_≡_, refl, sym, ap, _∙_}
-use mathlib.Core.Bool.{true, _&&_}
-use mathlib.Core.List.{List, [], _∷_, _++_, map, List·Memᴰ·not-nil as not-nil}
+use mathlib.Core.Bool.{true}
+use mathlib.Core.List.{List, [], _∷_, _++_}
 use lib.ListN.{length, drop, replicate, length-append}
 use lib.Dec.{leb}
-use borrow.Author.Tests.{le-leb, le-ltb, eqb-true}
+use borrow.Author.Tests.{le-leb}
 use Rattle.order.specs.Lists.{inTurn}
 use Rattle.order.proofs.Tests.{and-of}
-use Rattle.order.proofs.Members.{mem-map}
-use Rattle.order.proofs.Pairs.{AllPairs, pairs-weaker, of-unbroken}
+use Rattle.order.proofs.Pairs.{pairs-weaker}
 use Rattle.order.proofs.Ascending.{of-asc}
-use Rattle.model.specs.declared.Entry.{Entry}
 use Rattle.model.specs.declared.Refusal.{Refusal}
 use Rattle.model.specs.declared.Answer.{Answer}
 use Rattle.model.specs.declared.Answer.the-variants.{Done, Refused}
 use Rattle.model.specs.Row.{Table, key, keys, column}
 use Rattle.model.specs.Layer.{Layer, rowsAfter}
-use Rattle.model.specs.Raw.{editOf, entriesAt, entriesOf, layerOf, flat}
-use Rattle.model.specs.Form.{zeros, sound, follows, formPlace, keepsForm, inOrder, argsOk}
-use Rattle.model.specs.Fit.{fits, fitPlace}
+use Rattle.model.specs.Raw.{entriesAt, layerOf, flat}
+use Rattle.model.specs.Form.{follows, keepsForm, inOrder}
+use Rattle.model.specs.Fit.{fits}
 use Rattle.model.specs.Read.{read}
-use Rattle.model.specs.Refusals.{breaksForm}
 use Rattle.model.specs.Edits.{before}
 use Rattle.model.specs.Steps.{Step, stepOn, stepBy}
 use Rattle.model.specs.Calls.{formAnswer, fitAnswer, shownColumn, edited}
-use Rattle.model.proofs.Raw.{entries-length, layer-length}
+use Rattle.model.proofs.Readback.{sound-wide, read-back, zeros-back}
 use Rattle.model.proofs.Edits.{before-follows}
 use Rattle.model.proofs.Fit.{good-form, good-fits, keys-length}
 use Rattle.model.proofs.Column.{Wide, column-read}
 use Rattle.model.proofs.Edited.{Reads}
 use Rattle.model.proofs.Steps.{empty-good, empty-reads, step-reads}
-use Rattle.form.proofs.Answers.{fit-accepted}
+use Rattle.form.specs.InForm.{InForm}
+use Rattle.form.proofs.Accepted.{accepts-form, accepts-fit}
 use Rattle.write.proofs.Laws.{in-room}
-use Rattle.write.proofs.Layers.{sound-wide, flat-length}
-use Rattle.write.proofs.Readback.{read-back, zeros-back}
+use Rattle.write.proofs.Layers.{flat-length}
 use Rattle.edit.specs.Runs.{stepAnswer, Outcome, stepSlice, Ran, still, first}
 use Rattle.edit.proofs.Accepting.{Accepts, accepts}
 
@@ -54,10 +51,6 @@ pub refused-outcome : (c m : ℕ) (raw K : List ℕ) (x : Step) (r : Answer) (ne
     → Outcome c m raw K x r new
     → r ≡ Refused y → new ≡ raw
 refused-outcome c m raw K x r new y o e = o .1 ∙ ap (λ (t : Answer). edited c m t (stepOn K x (layerOf c m raw)) raw) e
-
-pairs-unmap : (xs : List Entry) → AllPairs follows (map editOf xs) → AllPairs (λ d e. follows (editOf d) (editOf e)) xs
-pairs-unmap [] p = tt
-pairs-unmap (x ∷ xs) p = (λ y m. p .0 (editOf y) (mem-map editOf xs y m), pairs-unmap xs (p .1))
 
 module _ (c m : ℕ) (raw : List ℕ) (T : Table) (x : Step) (k : ℕ) (h : stepAnswer c m raw (keys T) x ≡ Done k) where
   abbrev K : List ℕ
@@ -112,45 +105,27 @@ module _ (c m : ℕ) (raw : List ℕ) (T : Table) (x : Step) (k : ℕ) (h : step
         ),
       )
 
-  args : argsOk c (length T) k (length after) ≡ true
-  unfolding argsOk
-  args =
-      and-of (leb 1 c) _ (le-leb 1 c (A .form .held .some)) (and-of (leb c 8) _ (le-leb c 8 (A .form .held .columns))
-      (and-of (leb (length T) 4096) _ (le-leb (length T) 4096 (A .form .base))
-      (and-of (leb k 512) (leb (k * (c + 2)) (length after)) (le-leb k 512 (inside .0))
-      (le-leb (k * (c + 2)) (length after) (inside .1)))))
-
-  none-at-fault : formPlace c (length T) (entriesOf c k after) ≡ k
-  unfolding formPlace behind layerOf
-  none-at-fault =
-      of-unbroken (λ e. zeros e && sound c (length T) (editOf e)) (λ d e. follows (editOf d) (editOf e)) []
-      (entriesOf c k after) (record {
-        each = λ e n.
-            and-of (zeros e) (sound c (length T) (editOf e))
-            (zeros-back c (length T) (A .form .held .some) (A .form .held .columns) k M behind (A .size)
-            (R .good .each) e n)
-            (R .good .each (editOf e) (rw edit-layer at (mem-map editOf (entriesOf c k after) e n)));
-        past = λ y z n l. absurd (not-nil n);
-        pairs = pairs-unmap (entriesOf c k after)
-            (rw edit-layer (pairs-weaker before follows M (λ d e n l g. before-follows d e g) (R .good .fit .sorted)));
+  next-form : InForm c (length T) k after
+  unfolding behind
+  next-form =
+      accepts-form c (length T) k after
+      (record {
+        some = A .form .held .some;
+        columns = A .form .held .columns;
+        entries = inside .0;
+        room = inside .1;
       })
-      ∙ entries-length c k 0 after
+      (A .form .base)
+      (zeros-back c (length T) (A .form .held .some) (A .form .held .columns) k M behind (A .size) (R .good .each))
+      (rw edit-layer (R .good .each))
+      (rw edit-layer (pairs-weaker before follows M (λ d e n l g. before-follows d e g) (R .good .fit .sorted)))
+      (rw edit-layer (A .rows))
 
   pub edit-next-form : formAnswer c (length T) k after ≡ Done (rowsAfter (length T) M)
-  unfolding formAnswer breaksForm
-  edit-next-form =
-      rw (args, none-at-fault, le-ltb k k (omega arith), edit-layer, le-ltb 4096 (rowsAfter (length T) M) (A .rows))
+  edit-next-form = rw edit-layer at next-form
 
   pub edit-next : fitAnswer c k after K ≡ Done 0
-  unfolding fits
-  edit-next =
-      sym (fit-accepted c k after K (rowsAfter (length T) M) (rw (keys-length T) edit-next-form)
-      (of-asc key T (A .rising))
-      (omega (
-        arith,
-        eqb-true (fitPlace K (layerOf c k after)) (length (layerOf c k after)) edit-fits,
-        layer-length c k after,
-      )))
+  edit-next = accepts-fit c k after K (rw (keys-length T) next-form) (of-asc key T (A .rising)) edit-fits
 
   -- what is read through it is the edited table, and so is every column of it
   pub edit-reads : read T (layerOf c k after) ≡ stepBy x (read T L)

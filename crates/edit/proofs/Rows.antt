@@ -11,36 +11,23 @@ use borrow.Author.Tests.{le-ltb, eqb-true}
 use Rattle.order.specs.Lists.{without}
 use Rattle.order.proofs.Tests.{and-r}
 use Rattle.order.proofs.Ascending.{At, at-mem, at-length}
-use Rattle.model.specs.declared.Refusal.{Refusal}
 use Rattle.model.specs.declared.Answer.{Answer}
-use Rattle.model.specs.declared.Answer.the-variants.{Done, Refused}
+use Rattle.model.specs.declared.Answer.the-variants.{Done}
 use Rattle.model.specs.declared.Back.the-variants as backed
 use Rattle.model.specs.Row.{Row}
 use Rattle.model.specs.Cell.{to}
 use Rattle.model.specs.Layer.{add, at, Layer, rowsAfter, struck}
 use Rattle.model.specs.Raw.{layerOf, flat, room}
-use Rattle.model.specs.Position.{Origin, base, added, back}
+use Rattle.model.specs.Position.{base, added, back}
 use Rattle.model.specs.Edits.{strikeBase, strikeRow, changeBase, changeRowNo}
 use Rattle.model.specs.Calls.{originAnswer, edited}
-use Rattle.model.proofs.Origin.{Stands}
+use Rattle.model.proofs.Origin.{Stands, origin-base, origin-added}
 use Rattle.write.specs.Replaced.{replaced}
 use Rattle.write.proofs.Laws.{room-of}
 use Rattle.write.proofs.Layers.{spliced-length, replaced-edited, change-length, set-edited}
 use Rattle.edit.specs.Outcome.{countAnswer, Entered}
 use Rattle.edit.proofs.Splice.{without-at}
 use Rattle.edit.proofs.Known.{Known, stands}
-
-origin-base : (o : Origin) (s : ℕ) → originAnswer o ≡ backed.Base s → o ≡ base s
-origin-base (base t) s e = ap base (cc)
-origin-base (added i) s e = absurd (let z : _≡_ {A = ℕ} 0 1 = cc in omega arith)
-
-origin-added : (o : Origin) (i : ℕ) → originAnswer o ≡ backed.Added i → o ≡ added i
-origin-added (base t) i e = absurd (let z : _≡_ {A = ℕ} 0 1 = cc in omega arith)
-origin-added (added k) i e = ap added (cc)
-
-pub origin-never : (o : Origin) (x : Refusal) → originAnswer o ≡ backed.Refused x → ⊥
-origin-never (base t) x e = let z : _≡_ {A = ℕ} 0 1 = cc in omega arith
-origin-never (added k) x e = let z : _≡_ {A = ℕ} 0 1 = cc in omega arith
 
 module _ (c m : ℕ) (raw K : List ℕ) (r : ℕ) (N : Known c m raw K) (h : r < rowsAfter (length K) (layerOf c m raw)) where
   abbrev L : Layer

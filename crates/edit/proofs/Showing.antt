@@ -38,14 +38,11 @@ use Rattle.model.proofs.Edits.{before-cases, before-lt, before-eq, before-trans
 use Rattle.model.proofs.Layer.{struck-of, of-struck, changed-key}
 use Rattle.model.proofs.Read.{Shown, shown, shows-row, shows-add}
 use Rattle.model.proofs.Fit.{Fit, key-kept, key-of, below-keys}
-use Rattle.model.proofs.Column.{keys-read}
+use Rattle.model.proofs.Column.{keys-read, singles, keys-singles, singles-length}
 use Rattle.edit.specs.Landing.{aim, landing}
 use Rattle.edit.specs.Ready.{entryIs, numberIs}
 use Rattle.edit.proofs.Splice.{front, rest, drop-mem, pairs-drop}
 use Rattle.edit.proofs.Known.{
-  singles,
-  keys-singles,
-  singles-length,
   Known,
   from-entry,
   cons-head,

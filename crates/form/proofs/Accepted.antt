@@ -7,10 +7,11 @@ use mathlib.Core.Bool.{Bool, true, false, not, cond, _&&_}
 use mathlib.Core.List.{List, [], _∷_, List·Memᴰ as Mem, List·Memᴰ·not-nil as not-nil}
 use lib.ListN.{length, take}
 use lib.Dec.{ltb, leb}
-use borrow.Author.Tests.{ltb-false, le-leb, eq-eqb}
+use borrow.Author.Tests.{ltb-false, le-ltb, le-leb, eqb-true, eq-eqb}
 use Rattle.order.specs.Lists.{count, ascending, leastBroken}
 use Rattle.order.proofs.Tests.{and-of, or-false}
-use Rattle.order.proofs.Pairs.{AllPairs, broken-le, of-unbroken}
+use Rattle.order.proofs.Members.{mem-map}
+use Rattle.order.proofs.Pairs.{AllPairs, pairs-unmap, of-unbroken}
 use Rattle.model.specs.declared.Entry.{Entry}
 use Rattle.model.specs.declared.Refusal.{Refusal}
 use Rattle.model.specs.declared.Answer.{Answer}
@@ -18,13 +19,14 @@ use Rattle.model.specs.declared.Answer.the-variants.{Done, Refused}
 use Rattle.model.specs.Layer.{Edit, Layer, isStrike, rowsAfter}
 use Rattle.model.specs.Raw.{Held, entriesOf, editOf, layerOf, flat}
 use Rattle.model.specs.Form.{zeros, sound, follows, formPlace, inOrder, keepsForm, argsOk}
-use Rattle.model.specs.Fit.{suits, rises, fitPlace, fits}
+use Rattle.model.specs.Fit.{fitPlace, fits}
 use Rattle.model.specs.Refusals.{refusal, firstMet, badKeys, badFit, breaksForm}
 use Rattle.model.specs.Calls.{formAnswer, fitAnswer}
-use Rattle.model.proofs.Raw.{entries-length, layer-length, args-held}
+use Rattle.model.proofs.Raw.{entries-length, layer-length, form-place, args-held}
+use Rattle.model.proofs.Fit.{fits-all}
 use Rattle.form.specs.InForm.{InForm}
 use Rattle.form.proofs.Formed.{Formed, Whole, whole, strikes-few}
-use Rattle.form.proofs.Answers.{onward, after-form}
+use Rattle.form.proofs.Answers.{onward, after-form, fit-accepted}
 use Rattle.form.proofs.Flat.{flat-entries}
 
 pub record Accepted (c n m : ℕ) (xs : List ℕ) (rows : ℕ) : Type 0 where
@@ -74,12 +76,11 @@ module _ (c n m : ℕ) (xs : List ℕ) (rows : ℕ) (h : formAnswer c n m xs ≡
   kept = or-false (ltb (formPlace c n (entriesOf c m xs)) m) (ltb 4096 (rowsAfter n (layerOf c m xs))) (done .1)
 
   all-pass : formPlace c n (entriesOf c m xs) ≡ length (entriesOf c m xs)
-  unfolding formPlace
   all-pass = omega (
     arith,
     entries-length c m 0 xs,
     ltb-false (formPlace c n (entriesOf c m xs)) m (kept .0),
-    broken-le (λ e. zeros e && sound c n (editOf e)) (λ d e. follows (editOf d) (editOf e)) [] (entriesOf c m xs),
+    form-place c n m xs,
   )
 
   good : Whole c n (entriesOf c m xs)
@@ -119,41 +120,80 @@ module _ (c n m : ℕ) (xs : List ℕ) (rows : ℕ) (h : formAnswer c n m xs ≡
   pub in-form : InForm c n m xs
   in-form = h ∙ ap Done (accepted .shown)
 
+pub in-form-by : (c n m : ℕ) (xs : List ℕ) → argsOk c n m (length xs) ≡ true → breaksForm c n m xs ≡ false → InForm c n m xs
+unfolding formAnswer
+in-form-by c n m xs a b = rw (a, b)
+
+-- And back: a layer in a slice that is sound, in order and with its zeros is accepted.
+module _ (c n m : ℕ) (xs : List ℕ) (held : Held c m xs) (base : n ≤ 4096)
+    (zeroed : (e : Entry) → Mem e (entriesOf c m xs) → zeros e ≡ true)
+    (each : (e : Edit) → Mem e (layerOf c m xs) → sound c n e ≡ true)
+    (pairs : AllPairs follows (layerOf c m xs))
+    (few : rowsAfter n (layerOf c m xs) ≤ 4096) where
+  args-pass : argsOk c n m (length xs) ≡ true
+  unfolding argsOk
+  args-pass =
+      and-of (leb 1 c) _ (le-leb 1 c (held .some)) (and-of (leb c 8) _ (le-leb c 8 (held .columns))
+      (and-of (leb n 4096) _ (le-leb n 4096 base)
+      (and-of (leb m 512) (leb (m * (c + 2)) (length xs)) (le-leb m 512 (held .entries))
+      (le-leb (m * (c + 2)) (length xs) (held .room)))))
+
+  none-at-fault : formPlace c n (entriesOf c m xs) ≡ m
+  unfolding formPlace layerOf
+  none-at-fault =
+      of-unbroken (λ e. zeros e && sound c n (editOf e)) (λ d e. follows (editOf d) (editOf e)) [] (entriesOf c m xs)
+      (record {
+        each = λ e k. and-of (zeros e) (sound c n (editOf e)) (zeroed e k)
+            (each (editOf e) (mem-map editOf (entriesOf c m xs) e k));
+        past = λ d e k l. absurd (not-nil k);
+        pairs = pairs-unmap follows editOf (entriesOf c m xs) pairs;
+      })
+      ∙ entries-length c m 0 xs
+
+  pub accepts-form : InForm c n m xs
+  unfolding breaksForm
+  accepts-form =
+      in-form-by c n m xs args-pass
+      (rw (none-at-fault, le-ltb m m (omega arith), le-ltb 4096 (rowsAfter n (layerOf c m xs)) few))
+
 -- what callers know of a layer that the fit check accepts
 pub record Fitted (c m : ℕ) (xs K : List ℕ) : Type 0 where
   pub form : Accepted c (length K) m xs (rowsAfter (length K) (layerOf c m xs))
   pub rising : ascending K ≡ true
   pub fit : fits K (layerOf c m xs) ≡ true
 
-module _ (c m : ℕ) (xs K : List ℕ) (h : fitAnswer c m xs K ≡ Done 0) where
+module _ (c m : ℕ) (xs K : List ℕ) {k : ℕ} (h : fitAnswer c m xs K ≡ Done k) where
   -- the form is accepted, and then neither refusal is met
-  form-first : (r : Answer) {z : Answer} → onward Refused r z ≡ Done 0 → (rows : ℕ) × (r ≡ Done rows) × (z ≡ Done 0)
-  form-first (Done k) e = (k, refl, e)
+  form-first : (r : Answer) {z : Answer} → onward Refused r z ≡ Done k → (rows : ℕ) × (r ≡ Done rows) × (z ≡ Done k)
+  form-first (Done rows) e = (rows, refl, e)
   form-first (Refused x) e = absurd (let z : _≡_ {A = ℕ} 0 1 = cc in omega arith)
 
   fit-done : (rows : ℕ) × (formAnswer c (length K) m xs ≡ Done rows)
-      × (firstMet Refused (badKeys K ∷ badFit 0 K (layerOf c m xs) ∷ []) (Done 0) ≡ Done 0)
+      × (firstMet Refused (badKeys K ∷ badFit 0 K (layerOf c m xs) ∷ []) (Done 0) ≡ Done k)
   unfolding fitAnswer
   fit-done = form-first (formAnswer c (length K) m xs)
       (sym (after-form Refused c (length K) m xs (badKeys K ∷ badFit 0 K (layerOf c m xs) ∷ []) (Done 0)) ∙ h)
 
   neither : (ascending K ≡ true) × (ltb (fitPlace K (layerOf c m xs)) (length (layerOf c m xs)) ≡ false)
-      × (_≡_ {A = ℕ} 0 0)
+      × (0 ≡ k)
   neither =
       passed (ascending K) (ltb (fitPlace K (layerOf c m xs)) (length (layerOf c m xs))) (refusal 3 0)
       (refusal 4 (0 + fitPlace K (layerOf c m xs))) (fit-done .2)
 
-  fits-all : fits K (layerOf c m xs) ≡ true
-  unfolding fits fitPlace
-  fits-all = let L = layerOf c m xs in
-      eq-eqb (fitPlace K L) (length L)
-      (omega (arith, ltb-false (fitPlace K L) (length L) (neither .1), broken-le (suits K L) rises [] L))
+  pub fit-in-form : InForm c (length K) m xs
+  fit-in-form = in-form c (length K) m xs (fit-done .0) (fit-done .1)
 
   pub fitted : Fitted c m xs K
   fitted = record {
-    form =
-        accepted c (length K) m xs (rowsAfter (length K) (layerOf c m xs))
-        (in-form c (length K) m xs (fit-done .0) (fit-done .1));
+    form = accepted c (length K) m xs (rowsAfter (length K) (layerOf c m xs)) fit-in-form;
     rising = neither .0;
-    fit = fits-all;
+    fit = fits-all K (layerOf c m xs) (neither .1);
   }
+
+-- and back: a layer in form that fits ascending keys is accepted
+pub accepts-fit : (c m : ℕ) (xs K : List ℕ) → InForm c (length K) m xs → ascending K ≡ true → fits K (layerOf c m xs) ≡ true
+    → fitAnswer c m xs K ≡ Done 0
+unfolding fits
+accepts-fit c m xs K f a h =
+    sym (fit-accepted c m xs K (rowsAfter (length K) (layerOf c m xs)) f a
+    (omega (arith, eqb-true (fitPlace K (layerOf c m xs)) (length (layerOf c m xs)) h, layer-length c m xs)))

@@ -4,13 +4,12 @@ use Prim.Native.Nat.{ℕ, suc, _+_, _-_, _≤_, _<_}
 use native.Mathlib.Nat.{zero-add}
 use native.Mathlib.Omega.{arith}
 use mathlib.Core.Path.{_≡_, refl, sym, ap, _∙_}
-use mathlib.Core.Logic.{⊎-elim}
-use mathlib.Core.Bool.{Bool, true, false, _&&_, true≢false}
+use mathlib.Core.Bool.{Bool, true, false, _&&_}
 use mathlib.Core.List.{List, [], _∷_, map, List·Memᴰ as Mem, List·Memᴰ·head as here, List·Memᴰ·tail as next}
 use lib.ListN.{length}
 use borrow.Author.Tests.{lt-ltb, le-ltb, ltb-true}
 use Rattle.order.specs.Lists.{one, count}
-use Rattle.order.proofs.Tests.{and-l, and-r, lex-cases}
+use Rattle.order.proofs.Tests.{and-l, and-r}
 use Rattle.order.proofs.Members.{map-mem}
 use Rattle.order.proofs.Counts.{count-le, count-map, count-same}
 use Rattle.order.proofs.Pairs.{AllPairs, Unbroken, unbroken, pairs-map}
@@ -22,6 +21,7 @@ use Rattle.model.specs.Form.{zeros, sound, follows, formPlace, argsOk}
 use Rattle.model.specs.Refusals.{refusal, breaksForm}
 use Rattle.model.specs.Calls.{formAnswer}
 use Rattle.model.proofs.Raw.{entries-length, layer-length, args-held}
+use Rattle.model.proofs.Position.{follows-strike}
 use Rattle.form.specs.Scan.{good, ofKind}
 use Rattle.form.proofs.ByKind.{add-kind, strike-kind}
 use Rattle.form.proofs.Place.{place, all-good}
@@ -36,7 +36,7 @@ rest e F = record { each = λ d m. F .each d (next m); pairs = F .pairs .1 }
 
 -- what follows a strike stands past it
 pub past-strike : (s k : ℕ) (e : Edit) → follows (at s (strike k)) e ≡ true → s < position e
-past-strike s k (at p d) h = ⊎-elim (λ l. l) (λ w. absurd (true≢false (sym (w .1)))) (lex-cases s p false h)
+past-strike s k (at p d) h = follows-strike s p k d h
 
 -- so strikes stand at different positions, all of them below n
 strikes-from : (c n b : ℕ) (L : Layer) → b ≤ n → ((e : Edit) → Mem e L → isStrike e ≡ true → b ≤ position e)

@@ -6,7 +6,7 @@ use mathlib.Core.Bool.{Bool, true, false, cond, _&&_}
 use mathlib.Core.List.{List, [], _∷_, _++_, map, List·Memᴰ as Mem, List·Memᴰ·head as here, List·Memᴰ·tail as next}
 use Prim.Native.Nat.{ℕ, suc, _<_}
 use native.Mathlib.Omega.{arith}
-use lib.ListN.{length}
+use lib.ListN.{length, length-map}
 use lib.Dec.{leb, eqb}
 use borrow.Author.Tests.{eqb-true, eqb-false, ne-eqb}
 use Rattle.order.proofs.Tests.{and-r}
@@ -118,3 +118,15 @@ read-wide c T L w G r m = go (shown 0 T L r m)
     go : Shown 0 T L r → length r ≡ c
     go (inl a) = eqb-true (length r) c (and-r (leb (a .0) (length T)) (eqb (length r) c) (G .each (at (a .0) (add r)) (a .1)))
     go (inr a) = ap length (a .4) ∙ (changed-length (a .0) L (a .1) ∙ w (a .1) (at-mem (a .2)))
+
+-- a key column as a table of one column
+abbrev pub singles : List ℕ → Table
+singles K = map (λ k. k ∷ []) K
+
+pub keys-singles : (K : List ℕ) → keys (singles K) ≡ K
+unfolding key
+keys-singles [] = refl
+keys-singles (k ∷ K) = ap (λ (t : List ℕ). k ∷ t) (keys-singles K)
+
+pub singles-length : (K : List ℕ) → length (singles K) ≡ length K
+singles-length K = length-map K (λ k. k ∷ [])

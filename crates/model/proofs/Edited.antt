@@ -2,7 +2,7 @@
 -- Assumes nothing.
 use mathlib.Core.Path.{_≡_, refl, sym, ap, _∙_}
 use mathlib.Core.Logic.{_⊎_, inl, inr, ⊎-elim}
-use mathlib.Core.Bool.{Bool, true, false, not, cond, _&&_, _||_, true≢false}
+use mathlib.Core.Bool.{Bool, true, false, not, cond, _&&_, true≢false}
 use mathlib.Core.List.{
   List,
   [],
@@ -104,7 +104,7 @@ use Rattle.model.specs.Redo.{strikeKey, putKey, changeKey, rowBefore, ad
 use Rattle.model.proofs.Cell.{put-key, put-length, put-comm}
 use Rattle.model.proofs.Layer.{changed-key, changed-comm, Trade, of-struck, struck-of}
 use Rattle.model.proofs.Read.{Shown, shown, shows-row, shows-add}
-use Rattle.model.proofs.Edits.{before-lt, before-eq, before-trans, before-asym, level}
+use Rattle.model.proofs.Edits.{before-lt, before-eq, before-trans, before-asym, before-key, level}
 use Rattle.model.proofs.Fit.{Fit, Good, key-kept, key-of, keys-length, below-keys}
 use Rattle.model.proofs.Count.{read-ascends, read-length}
 use Rattle.model.proofs.Redo.{strike-mem, mem-strike, strike-asc, change-asc, add-asc}
@@ -736,15 +736,6 @@ module _ (M : Table) (a : AscFrom key 0 M) (i : ℕ) (q : Row) (n : At q i 0 M) 
       (λ x m h. lt-ltb (key x) (key (put q j e)) (omega (tests, put-key q j e past)))
       (λ x m h. le-ltb (key x) (key (put q j e)) (omega (tests, put-key q j e past)))
       ∙ sym change-is-set)
-
--- an add's place in the order is its key's
-deed-key : (d : Deed) (q r : Row) → key q ≡ key r → deedBefore d (add q) ≡ deedBefore d (add r)
-deed-key (add x) q r h = ap (ltb (key x)) h
-deed-key (strike k) q r h = refl
-deed-key (change i f) q r h = refl
-
-before-key : (x : Edit) (p : ℕ) (q r : Row) → key q ≡ key r → before x (at p (add q)) ≡ before x (at p (add r))
-before-key (at s d) p q r h = ap (λ (t : Bool). ltb s p || (eqb s p && t)) (deed-key d q r h)
 
 pub change-set : (i j : ℕ) (e : CellEdit) (L : Layer) (p : ℕ) (q : Row) → At (at p (add q)) i 0 L
     → changeAdded i j e L ≡ set L i (at p (add (put q j e)))

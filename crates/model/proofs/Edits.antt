@@ -1,15 +1,15 @@
--- The order of a layer's edits: strict, and what form and fit say together of any two of them.
+-- The order of a layer's edits: strict, and what form and fit say together of any two of them; and by numbers of their kinds.
 -- Assumes nothing.
 use mathlib.Core.Path.{_≡_, refl, sym, ap, _∙_}
 use mathlib.Core.Logic.{_⊎_, inl, inr, ⊎-elim}
-use mathlib.Core.Bool.{Bool, true, false, not, cond, _&&_, _||_, true≢false}
+use mathlib.Core.Bool.{Bool, true, false, not, cond, _&&_, _||_, true≢false, or-false}
 use Prim.Native.Nat.{ℕ, zero, suc, _≤_, _<_}
 use native.Mathlib.Omega.{arith}
 use lib.Dec.{leb, ltb, eqb}
 use borrow.Author.Tests.{ltb-true, lt-ltb, eq-eqb, eqb-true, ne-eqb}
 use Rattle.order.proofs.Tests.{tests, or-l, or-r, lex-cases, lex-lt, lex-eq}
 use Rattle.model.specs.Row.{Row, key}
-use Rattle.model.specs.Cell.{CellEdit}
+use Rattle.model.specs.Cell.{CellEdit, to}
 use Rattle.model.specs.Layer.{Deed, add, strike, change, Edit, at, position}
 use Rattle.model.specs.Form.{after, follows}
 use Rattle.model.specs.Fit.{keysRise, rises}
@@ -118,3 +118,28 @@ before-rises (at p d) (at s e) h = go (before-cases p s d e h)
 -- at one position
 pub level : (p s : ℕ) (d e : Deed) → p ≡ s → before (at p d) (at s e) ≡ true → deedBefore d e ≡ true
 level p s d e ps h = ⊎-elim (λ l. absurd (omega arith)) (λ w. w .1) (before-cases p s d e h)
+
+-- an add's place in the order is its key's
+pub deed-key : (d : Deed) (q r : Row) → key q ≡ key r → deedBefore d (add q) ≡ deedBefore d (add r)
+deed-key (add x) q r h = ap (ltb (key x)) h
+deed-key (strike k) q r h = refl
+deed-key (change i f) q r h = refl
+
+pub before-key : (x : Edit) (p : ℕ) (q r : Row) → key q ≡ key r → before x (at p (add q)) ≡ before x (at p (add r))
+before-key (at s d) p q r h = ap (λ (t : Bool). ltb s p || (eqb s p && t)) (deed-key d q r h)
+
+-- a deed by two tests of its kind: an added row, else the struck key u, else a change of column j to u
+abbrev pub deedBy : Bool → Bool → Row → ℕ → ℕ → Deed
+deedBy isAdd isStrike q u j = cond isAdd (add q) (cond isStrike (strike u) (change j (to u)))
+
+-- and the order at one position by tests of both kinds
+pub by-kinds : (a b x y : Bool) (q r : Row) (u v i j : ℕ)
+    → ((a && (not x || ltb (key q) (key r))) || (not a && (not b && (not x && (not y && ltb i j)))))
+    ≡ deedBefore (deedBy a b q u i) (deedBy x y r v j)
+by-kinds true b true y q r u v i j = or-false (ltb (key q) (key r))
+by-kinds true b false true q r u v i j = refl
+by-kinds true b false false q r u v i j = refl
+by-kinds false true x y q r u v i j = refl
+by-kinds false false true y q r u v i j = refl
+by-kinds false false false true q r u v i j = refl
+by-kinds false false false false q r u v i j = refl

@@ -25,7 +25,7 @@ use borrow.Author.Tests.{
 use Rattle.order.specs.Lists.{count, leastBroken}
 use Rattle.order.proofs.Tests.{tests, and-l, and-r, and-of, or-cases, or-l, or-r}
 use Rattle.order.proofs.Counts.{count-le, count-map}
-use Rattle.order.proofs.Pairs.{AllPairs, pairs-both, pairs-weaker, Unbroken, unbroken, of-unbroken}
+use Rattle.order.proofs.Pairs.{AllPairs, pairs-both, pairs-weaker, Unbroken, broken-le, unbroken, of-unbroken}
 use Rattle.order.proofs.Ascending.{
   AscFrom,
   At,
@@ -52,6 +52,13 @@ use Rattle.model.specs.Edits.{before}
 use Rattle.model.proofs.Cell.{key-nil}
 use Rattle.model.proofs.Layer.{KeyKept}
 use Rattle.model.proofs.Edits.{before-of, before-follows, before-rises}
+
+-- a layer fits where the place of the first entry that does not is no entry's
+pub fits-all : (K : List ℕ) (L : Layer) → ltb (fitPlace K L) (length L) ≡ false → fits K L ≡ true
+unfolding fits fitPlace
+fits-all K L h =
+    eq-eqb (fitPlace K L) (length L)
+    (omega (arith, ltb-false (fitPlace K L) (length L) h, broken-le (suits K L) rises [] L))
 
 pub record Fit (T : Table) (L : Layer) : Type 0 where
   -- an add's position is the number of base keys below its own

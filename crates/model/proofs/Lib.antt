@@ -1,4 +1,5 @@
 pub mod Raw
+pub mod Readback
 pub mod Cell
 pub mod Layer
 pub mod Read

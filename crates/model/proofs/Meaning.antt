@@ -23,7 +23,7 @@ use borrow.Author.Tests.{eqb-true, eq-eqb}
 use Rattle.order.specs.Lists.{count}
 use Rattle.order.proofs.Members.{gather-mem, mem-gather}
 use Rattle.order.proofs.Tests.{tests, not-passed}
-use Rattle.order.proofs.Pairs.{AllPairs}
+use Rattle.order.proofs.Pairs.{AllPairs, pairs-two}
 use Rattle.order.proofs.Ascending.{AscFrom, At, below, at-count}
 use Rattle.model.specs.Row.{Row, Table, key, keys}
 use Rattle.model.specs.Cell.{CellEdit}
@@ -70,15 +70,6 @@ module _ (T : Table) (L : Layer) (a : AscFrom key 0 T) (F : Fit T L) where
       → keyOf (keys T) (at p d) ≡ keyOf (keys T) (at s e) → p ≡ s
   one-position p s d e m n k =
       sym (position-of p d m) ∙ (ap (λ (l : ℕ). count (below key l) T) k ∙ position-of s e n)
-
--- of two members one stands before the other, where they are not the same
-module _ {A : Type 0} where
-  pub pairs-two : (R : A → A → Bool) (xs : List A) → AllPairs R xs → (x y : A) → Mem x xs → Mem y xs
-      → (x ≡ y) ⊎ ((R x y ≡ true) ⊎ (R y x ≡ true))
-  pairs-two R (z ∷ zs) p x y (here e) (here f) = inl (e ∙ sym f)
-  pairs-two R (z ∷ zs) p x y (here e) (next n) = inr (inl (ap (λ (w : A). R w y) e ∙ p .0 y n))
-  pairs-two R (z ∷ zs) p x y (next m) (here f) = inr (inr (ap (λ (w : A). R w x) f ∙ p .0 x m))
-  pairs-two R (z ∷ zs) p x y (next m) (next n) = pairs-two R zs (p .1) x y m n
 
 -- a row that is changed is not struck
 pub changed-kept : (L : Layer) → AllPairs before L → (s j : ℕ) (e : CellEdit) → Mem (at s (change j e)) L → struck s L ≡ false

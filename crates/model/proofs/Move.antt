@@ -56,6 +56,7 @@ use Rattle.model.proofs.Read.{Shown, shown, shows-row, shows-add}
 use Rattle.model.proofs.Fit.{Fit, Good, key-kept, key-of}
 use Rattle.model.proofs.Count.{read-ascends, moved-add, moved-row}
 use Rattle.model.proofs.Conflict.{Apart}
+use Rattle.model.proofs.Meaning.{position-of}
 
 -- X and Y stand beside each other over T: both fit, and they are free of conflict
 pub record Beside (T : Table) (X Y : Layer) : Type 0 where
@@ -149,18 +150,8 @@ module _ (T : Table) (Y : Layer) (a : AscFrom key 0 T) (FY : Fit T Y) where
         ap (λ (k : ℕ). count (below key k) (read T Y)) (ap key e ∙ changed-key s Y q (key-kept T Y FY)),
       )
 
--- a position is the number of keys below the edit's own, before the move and after it
-pub old-position : (T : Table) (X : Layer) → AscFrom key 0 T → Fit T X → (e : Edit) → Mem e X
-    → count (below key (keyOf (keys T) e)) T ≡ position e
-old-position T X a FX (at s (add r)) m = FX .sits s r m
-old-position T X a FX (at s (strike k)) m =
-    let w = FX .strikes s k m in
-    ap (λ (l : ℕ). count (below key l) T) (sym (w .2)) ∙ omega (arith, at-count key 0 0 T a (w .0) s (w .1))
-old-position T X a FX (at s (change j e)) m =
-    let w = FX .changes s j e m in
-    ap (λ (l : ℕ). count (below key l) T) (key-of (w .1)) ∙ omega (arith, at-count key 0 0 T a (w .0) s (w .1))
-
 module _ (T : Table) (X Y : Layer) (B : Beside T X Y) where
+  -- after the move too a position is the number of keys below the edit's own
   new-position : (e : Edit) → Mem e X → position (moved Y e) ≡ count (below key (keyOf (keys T) e)) (read T Y)
   new-position (at s (add r)) m = moved-add T Y (B .ascends) (B .theirs) s (key r) (B .mine .sits s r m)
   new-position (at s (strike k)) m =
@@ -205,9 +196,9 @@ module _ (T : Table) (X Y : Layer) (B : Beside T X Y) where
   mono d e m n k = omega (arith, new-position d m, new-position e n, count-mono key (read T Y) (keyOf (keys T) d) (keyOf (keys T) e) k)
 
   higher : (d e : Edit) → Mem d X → Mem e X → position d < position e → keyOf (keys T) d < keyOf (keys T) e
-  higher d e m n l =
-      count-rise key T (keyOf (keys T) d) (keyOf (keys T) e)
-      (omega (arith, old-position T X (B .ascends) (B .mine) d m, old-position T X (B .ascends) (B .mine) e n))
+  higher (at p d) (at s e) m n l =
+      count-rise key T (keyOf (keys T) (at p d)) (keyOf (keys T) (at s e))
+      (omega (arith, position-of T X (B .ascends) (B .mine) p d m, position-of T X (B .ascends) (B .mine) s e n))
 
   -- an add stays before what it stood before
   add-stays : (p s : ℕ) (r : Row) (e : Deed) → Mem (at p (add r)) X → Mem (at s e) X → (p < s) ⊎ ((p ≡ s) × (deedBefore (add r) e ≡ true))

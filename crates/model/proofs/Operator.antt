@@ -8,7 +8,6 @@ use mathlib.Core.List.{
   [],
   _∷_,
   _++_,
-  map,
   List·Memᴰ as Mem,
   List·Memᴰ·head as here,
   List·Memᴰ·tail as next,
@@ -20,10 +19,11 @@ use native.Mathlib.Omega.{arith}
 use lib.ListN.{length, getD}
 use lib.Dec.{eqb}
 use borrow.Author.Tests.{eqb-true, eqb-false, eq-eqb, ne-eqb}
-use Rattle.order.specs.Lists.{gather, inTurn, ascending}
+use Rattle.order.specs.Lists.{inTurn, ascending}
 use Rattle.order.proofs.Tests.{tests, same-test, not-passed}
 use Rattle.order.proofs.Counts.{count-le}
 use Rattle.order.proofs.Pairs.{AllPairs}
+use Rattle.order.proofs.Gather.{gather-same, gather-map}
 use Rattle.order.proofs.Ascending.{AscFrom, At, below, mem-at, at-mem, at-same, asc-mem, asc-same}
 use Rattle.model.specs.Row.{Row, Table, cell, key, keys}
 use Rattle.model.specs.Cell.{CellEdit, done, agree, put}
@@ -314,16 +314,6 @@ module _ (T : Table) (L : Layer) (a : AscFrom key 0 T) (F : Fit T L) (g : ℕ) w
       go (found r m e) = lookup-mem (read T L) (read-ascends T L a F) g r m e ∙ sym (stands r e (shown 0 T L r m))
       go (nowhere h) = lookup-none (read T L) g h ∙ sym (gone h (sought g T))
 
--- a gathered list that was mapped before
-module _ {A B C : Type 0} where
-  gather-map : (f : B → List C) (h : A → B) (k : A → List C) (xs : List A) → ((x : A) → Mem x xs → f (h x) ≡ k x)
-      → gather f (map h xs) ≡ gather k xs
-  gather-map f h k [] e = refl
-  gather-map f h k (x ∷ xs) e =
-      let first = e x (here refl) in
-      let rest = gather-map f h k xs (λ y m. e y (next m)) in
-      λ i. first i ++ rest i
-
 -- the table once Y and then the moved X are read
 abbrev pub together : Table → Layer → Layer → Table
 together T X Y = read (read T Y) (move X Y)
@@ -371,7 +361,9 @@ module _ (T : Table) (X Y : Layer) (B : Beside T X Y) where
   -- moved past Y, a layer means for every group what it meant
   pub meaning-moved : (g : ℕ) → meaning (keys (read T Y)) (move X Y) g ≡ meaning (keys T) X g
   unfolding meaning
-  meaning-moved g = gather-map (concerning (keys (read T Y)) g) (moved Y) (concerning (keys T) g) X each
+  meaning-moved g =
+      gather-map (concerning (keys (read T Y)) g) (moved Y) X
+      ∙ gather-same (λ e. concerning (keys (read T Y)) g (moved Y e)) (concerning (keys T) g) X each
     where
       each : (e : Edit) → Mem e X → concerning (keys (read T Y)) g (moved Y e) ≡ concerning (keys T) g e
       each (at s (add r)) m = refl

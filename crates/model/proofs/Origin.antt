@@ -22,10 +22,13 @@ use lib.Dec.{eqb}
 use Rattle.order.proofs.Members.{map-mem}
 use Rattle.order.proofs.Ascending.{At, top, deep, at-mem, at-getD, getD-at}
 use Rattle.order.proofs.Edited.{at-map}
+use Rattle.model.specs.declared.Refusal.{Refusal}
+use Rattle.model.specs.declared.Back.the-variants as backed
 use Rattle.model.specs.Row.{Row, Table}
 use Rattle.model.specs.Layer.{add, strike, change, Edit, at, Layer, addsAt, struck, changed}
 use Rattle.model.specs.Read.{unless, through, read}
 use Rattle.model.specs.Position.{Origin, base, added, addNumbers, originsFrom, origins, back}
+use Rattle.model.specs.Calls.{originAnswer}
 use Rattle.model.proofs.Column.{map-unless, through-same, through-map, through-over}
 
 -- the row that an edit adds
@@ -136,3 +139,16 @@ added-at T L q i O =
 pub base-at : (T : Table) (L : Layer) (q : Row) (s : ℕ) → RowOrigin T L q (base s)
     → (b : Row) × At b s 0 T × (struck s L ≡ false) × (q ≡ changed s L b)
 base-at T L q s O = (getD T s [], getD-at T s [] (O .stands .0), O .stands .1, O .row)
+
+-- what is answered of an origin says which it is
+pub origin-base : (o : Origin) (s : ℕ) → originAnswer o ≡ backed.Base s → o ≡ base s
+origin-base (base t) s e = ap base (cc)
+origin-base (added i) s e = absurd (let z : _≡_ {A = ℕ} 0 1 = cc in omega arith)
+
+pub origin-added : (o : Origin) (i : ℕ) → originAnswer o ≡ backed.Added i → o ≡ added i
+origin-added (base t) i e = absurd (let z : _≡_ {A = ℕ} 0 1 = cc in omega arith)
+origin-added (added k) i e = ap added (cc)
+
+pub origin-never : (o : Origin) (x : Refusal) → originAnswer o ≡ backed.Refused x → ⊥
+origin-never (base t) x e = let z : _≡_ {A = ℕ} 0 1 = cc in omega arith
+origin-never (added k) x e = let z : _≡_ {A = ℕ} 0 1 = cc in omega arith

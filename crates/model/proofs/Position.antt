@@ -39,7 +39,7 @@ use borrow.Author.Tests.{
   not-true,
 }
 use Rattle.order.specs.Lists.{one, count, leastBroken}
-use Rattle.order.proofs.Tests.{tests, and-l, and-r, and-of, one-le}
+use Rattle.order.proofs.Tests.{tests, and-l, and-r, and-of, one-le, lex-cases}
 use Rattle.order.proofs.Counts.{count-append, count-sum, count-same, count-zero, count-le}
 use Rattle.order.proofs.Members.{mem-map, map-mem}
 use Rattle.order.proofs.Pairs.{AllPairs, Unbroken, unbroken}
@@ -75,6 +75,7 @@ use Rattle.model.specs.Position.{
   origins,
   back,
 }
+use Rattle.model.specs.Move.{addBefore}
 
 -- What a layer in order gives: each edit is sound, and follows each earlier one.
 pub formed : (c n : ℕ) (L : Layer) → inOrder c n L ≡ true → Unbroken (sound c n) follows [] L
@@ -94,31 +95,16 @@ pairs-at (z ∷ E) e M p = let w = pairs-at E e M (p .1) in (first (w .0), w .1)
 
 -- an edit stands at or after the one that it follows, and after a strike
 pub follows-pos : (p s : ℕ) (d e : Deed) → follows (at p d) (at s e) ≡ true → p ≤ s
-follows-pos p s d e h = go (ltb p s) (eqb p s) refl refl h
-  where
-    go : (t u : Bool) → ltb p s ≡ t → eqb p s ≡ u → (t || (u && after d e)) ≡ true → p ≤ s
-    go true u f g q = omega tests
-    go false true f g q = omega tests
-    go false false f g q = absurd (true≢false (sym q))
+follows-pos p s d e h = ⊎-elim (λ l. omega arith) (λ w. omega (arith, w .0)) (lex-cases p s (after d e) h)
 
 pub follows-strike : (p s k : ℕ) (e : Deed) → follows (at p (strike k)) (at s e) ≡ true → p < s
-follows-strike p s k e h = go (ltb p s) (eqb p s) refl refl h
-  where
-    go : (t u : Bool) → ltb p s ≡ t → eqb p s ≡ u → (t || (u && false)) ≡ true → p < s
-    go true u f g q = omega tests
-    go false true f g q = absurd (true≢false (sym q))
-    go false false f g q = absurd (true≢false (sym q))
+follows-strike p s k e h = ⊎-elim (λ l. l) (λ w. absurd (true≢false (sym (w .1)))) (lex-cases p s false h)
 
--- an add at s, and at a position before s
+-- an add at s
 abbrev pub addAt : ℕ → Edit → Bool
 addAt s (at p (add r)) = eqb s p
 addAt s (at p (strike k)) = false
 addAt s (at p (change j e)) = false
-
-abbrev pub addBefore : ℕ → Edit → Bool
-addBefore s (at p (add r)) = ltb p s
-addBefore s (at p (strike k)) = false
-addBefore s (at p (change j e)) = false
 
 -- up to s is before s or at s
 one-upto : (p s : ℕ) → one (ltb p s) + one (eqb s p) ≡ one (leb p s)

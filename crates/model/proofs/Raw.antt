@@ -4,16 +4,18 @@ use Prim.Native.Nat.{ℕ, zero, suc, _+_, _*_, _-_, _≤_, _<_}
 use native.Mathlib.Nat.{zero-add, add-zero, add-assoc, zero-mul, suc-mul, mul-le-mul, mul-le-mul-right, sub-zero, suc-add}
 use native.Mathlib.Omega.{arith}
 use mathlib.Core.Path.{_≡_, refl, sym, ap, _∙_}
-use mathlib.Core.Bool.{Bool, true, false, _&&_}
+use mathlib.Core.Bool.{Bool, true, _&&_}
 use mathlib.Core.List.{List, [], _∷_, _++_, map}
 use lib.ListN.{length, getD, take, drop, length-drop, length-append, List·getD-append}
 use lib.Seq.{getD-take, getD-drop, getD-append-add, drop-append-le, drop-append-add, take-append-le}
 use lib.Dec.{leb}
 use borrow.Author.Tests.{leb-true}
+use Rattle.order.proofs.Tests.{and-l, and-r}
+use Rattle.order.proofs.Pairs.{broken-le}
 use Rattle.model.specs.declared.Entry.{Entry}
 use Rattle.model.specs.Layer.{Edit, Layer}
-use Rattle.model.specs.Raw.{Held, none, entryAt, entriesAt, editOf, layerOf}
-use Rattle.model.specs.Form.{argsOk}
+use Rattle.model.specs.Raw.{Held, none, entryAt, entriesAt, entriesOf, editOf, layerOf}
+use Rattle.model.specs.Form.{zeros, sound, follows, formPlace, argsOk}
 
 -- value j of the entry from `at`
 pub value-at : (c from j : ℕ) (xs : List ℕ) → j < c → getD (entryAt c from xs .vals) j 0 ≡ getD xs (from + 2 + j) 0
@@ -112,13 +114,21 @@ pub layer-length : (c m : ℕ) (xs : List ℕ) → length (layerOf c m xs) ≡ m
 unfolding layerOf
 layer-length c m xs = map-length (entriesAt c m 0 xs) ∙ entries-length c m 0 xs
 
+-- the place of a layer that breaks form is an entry's or m
+pub form-place : (c n m : ℕ) (xs : List ℕ) → formPlace c n (entriesOf c m xs) ≤ m
+unfolding formPlace
+form-place c n m xs = omega (
+  arith,
+  entries-length c m 0 xs,
+  broken-le (λ e. zeros e && sound c n (editOf e)) (λ d e. follows (editOf d) (editOf e)) [] (entriesOf c m xs),
+)
+
 -- at most 512 entries of at most 10 numbers
 pub small : {m c : ℕ} → m ≤ 512 → c ≤ 8 → m * (c + 2) ≤ 5120
 small {m} {c} hm hc = mul-le-mul {n₁ = m} {m₁ = c + 2} {n₂ = 512} {m₂ = 10} hm (omega arith)
 
 both : (a b : Bool) → (a && b) ≡ true → (a ≡ true) × (b ≡ true)
-both true b h = (refl, h)
-both false b h = (h, absurd (let z : _≡_ {A = ℕ} 0 1 = cc in omega arith))
+both a b h = (and-l a b h, and-r a b h)
 
 -- what is left where the arguments pass refusal 1
 pub args-held : (c n m : ℕ) (xs : List ℕ) → argsOk c n m (length xs) ≡ true → Held c m xs × (n ≤ 4096)

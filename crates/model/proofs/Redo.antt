@@ -66,7 +66,7 @@ use Rattle.model.proofs.Read.{Shown, shown, shows-row, shows-add}
 use Rattle.model.proofs.Fit.{Fit, key-kept, key-of}
 use Rattle.model.proofs.Count.{read-ascends}
 use Rattle.model.proofs.Conflict.{Apart}
-use Rattle.model.proofs.Move.{Beside, row-at, move-fits, old-position}
+use Rattle.model.proofs.Move.{Beside, row-at, move-fits}
 
 abbrev pub redoStrikes : Layer → Table → Table
 redoStrikes L M = inTurn (doStrike onTable) L M

@@ -20,6 +20,7 @@ use Prim.Native.Nat.{ℕ, zero, suc, _≤_}
 use lib.ListN.{set}
 use native.Mathlib.Omega.{arith}
 use Rattle.order.specs.Lists.{filter, insert, without, gather, inTurn}
+use Rattle.order.proofs.Tests.{not-passed}
 use Rattle.order.proofs.Members.{gather-mem}
 use Rattle.order.proofs.Pairs.{AllPairs}
 use Rattle.order.proofs.Ascending.{At, top, deep}
@@ -67,11 +68,7 @@ module _ {A B : Type 0} (f : A → List B) where
       front (y ∷ ys) z = rw (z y (here refl))
 
       later : R x e ≡ false → (y : A) → Mem y xs → R y e ≡ false
-      later g y m = elim-false (R y e) (λ t. true≢false (sym (trans x y e (p .0 y m) t) ∙ g))
-        where
-          elim-false : (t : Bool) → (t ≡ true → ⊥) → t ≡ false
-          elim-false true k = absurd (k refl)
-          elim-false false k = refl
+      later g y m = not-passed (R y e) (λ t. true≢false (sym (trans x y e (p .0 y m) t) ∙ g))
 
       behind : R x e ≡ false → (b : B) → Mem b (f x ++ gather f xs) → S b d ≡ false
       behind g b m =
@@ -146,6 +143,11 @@ module _ {B C : Type 0} where
   turn-append g (y ∷ ys) zs c = turn-append g ys zs (g y c)
 
 module _ {A B C : Type 0} where
+  -- what is gathered from a mapped list
+  pub gather-map : (f : B → List C) (h : A → B) (xs : List A) → gather f (map h xs) ≡ gather (λ x. f (h x)) xs
+  gather-map f h [] = refl
+  gather-map f h (x ∷ xs) = ap (λ (t : List C). f (h x) ++ t) (gather-map f h xs)
+
   pub turn-gather : (f : A → List B) (g : B → C → C) (xs : List A) (c : C) → inTurn g (gather f xs) c ≡ inTurn (λ x. inTurn g (f x)) xs c
   turn-gather f g [] c = refl
   turn-gather f g (x ∷ xs) c = turn-append g (f x) (gather f xs) c ∙ turn-gather f g xs (inTurn g (f x) c)

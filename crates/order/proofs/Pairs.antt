@@ -19,7 +19,7 @@ use native.Mathlib.Omega.{arith}
 use lib.ListN.{length}
 use Rattle.order.specs.Lists.{all, filter, insert, leastBroken}
 use Rattle.order.proofs.Tests.{and-l, and-r, and-of}
-use Rattle.order.proofs.Members.{all-mem, all-of, filter-mem, insert-mem, map-mem}
+use Rattle.order.proofs.Members.{all-mem, all-of, filter-mem, insert-mem, mem-map, map-mem}
 
 module _ {A : Type 0} where
   -- every element has the rule with every later one
@@ -44,6 +44,14 @@ module _ {A : Type 0} where
     λ y m. h x y (here refl) (next m) (p .0 y m) (q .0 y m),
     pairs-both R S Q xs (λ a b m n. h a b (next m) (next n)) (p .1) (q .1),
   )
+
+  -- of two members one stands before the other, where they are not the same
+  pub pairs-two : (R : A → A → Bool) (xs : List A) → AllPairs R xs → (x y : A) → Mem x xs → Mem y xs
+      → (x ≡ y) ⊎ ((R x y ≡ true) ⊎ (R y x ≡ true))
+  pairs-two R (z ∷ zs) p x y (here e) (here f) = inl (e ∙ sym f)
+  pairs-two R (z ∷ zs) p x y (here e) (next n) = inr (inl (ap (λ (w : A). R w y) e ∙ p .0 y n))
+  pairs-two R (z ∷ zs) p x y (next m) (here f) = inr (inr (ap (λ (w : A). R w x) f ∙ p .0 x m))
+  pairs-two R (z ∷ zs) p x y (next m) (next n) = pairs-two R zs (p .1) x y m n
 
   pub pairs-filter : (R : A → A → Bool) (f : A → Bool) (xs : List A) → AllPairs R xs → AllPairs R (filter f xs)
   pairs-filter R f [] p = tt
@@ -169,3 +177,8 @@ module _ {A B : Type 0} where
         ap (S (f x)) (w .2) ∙ h x (w .0) (here refl) (next (w .1)) (p .0 (w .0) (w .1)),
     pairs-map R S f xs (λ a b m n. h a b (next m) (next n)) (p .1),
   )
+
+  -- and back: a rule of what the elements become is a rule of the elements
+  pub pairs-unmap : (S : B → B → Bool) (f : A → B) (xs : List A) → AllPairs S (map f xs) → AllPairs (λ x y. S (f x) (f y)) xs
+  pairs-unmap S f [] p = tt
+  pairs-unmap S f (x ∷ xs) p = (λ y m. p .0 (f y) (mem-map f xs y m), pairs-unmap S f xs (p .1))

@@ -1,26 +1,22 @@
 -- What the heads of two entries say is what their edits say: order and conflict look at no more of a row than its key.
 -- Assumes nothing.
 use mathlib.Core.Path.{_≡_, refl, ap, _∙_}
-use mathlib.Core.Bool.{Bool, true, false, not, cond, _&&_, _||_, or-false, and-true}
-use mathlib.Core.List.{List, [], _∷_}
+use mathlib.Core.Bool.{Bool, true, false, not, cond, _&&_, _||_, and-true}
+use mathlib.Core.List.{[], _∷_}
 use Prim.Native.Nat.{ℕ}
 use lib.ListN.{getD}
 use lib.Dec.{ltb, eqb}
 use borrow.Author.Tests.{eq-eqb, ne-eqb}
 use Rattle.model.specs.declared.Entry.{Entry}
 use Rattle.model.specs.Row.{Row, key}
-use Rattle.model.specs.Cell.{to}
 use Rattle.model.specs.Layer.{Deed, add, strike, change, Edit, at}
 use Rattle.model.specs.Raw.{ADD, STRIKE, editOf}
-use Rattle.model.specs.Edits.{deedBefore, before}
+use Rattle.model.specs.Edits.{before}
 use Rattle.model.specs.Conflict.{Rule, none, struckRow, sameCell, sameKey, clash, met, ruleNumber}
+use Rattle.model.proofs.Edits.{before-key, deedBy, by-kinds}
 use Rattle.model.proofs.Conflict.{clash-sym}
 use Rattle.pass.specs.declared.head.Head.{Head}
 use Rattle.pass.specs.Head.{headOf, seen}
-
--- a deed by tests of its kind
-abbrev deedBy : Bool → Bool → List ℕ → ℕ → ℕ → Deed
-deedBy a b row v k = cond a (add row) (cond b (strike v) (change k (to v)))
 
 -- what looks at no more of an added row than its key sees the edit in the head
 by-key : {B : Type 0} (F : Edit → B) → ((s : ℕ) (q r : Row) → key q ≡ key r → F (at s (add q)) ≡ F (at s (add r)))
@@ -34,12 +30,7 @@ by-key F h e = by (eqb (e .kind) ADD) (eqb (e .kind) STRIKE)
     by false b = refl
 
 pub before-head : (d : Edit) (e : Entry) → before d (seen (headOf e)) ≡ before d (editOf e)
-before-head (at p d) e = by-key (before (at p d)) (λ s q r k. level s q r d k) e
-  where
-    level : (s : ℕ) (q r : Row) (d : Deed) → key q ≡ key r → before (at p d) (at s (add q)) ≡ before (at p d) (at s (add r))
-    level s q r (add x) k = rw k
-    level s q r (strike l) k = refl
-    level s q r (change j f) k = refl
+before-head d e = by-key (before d) (before-key d) e
 
 pub head-before : (d : Entry) (e : Edit) → before (seen (headOf d)) e ≡ before (editOf d) e
 head-before d (at s e) = by-key (λ x. before x (at s e)) (λ p q r k. level p q r e k) d
@@ -75,17 +66,8 @@ cell : (s t : Bool) → ruleNumber (cond (s && (t && true)) sameCell none) ≡ c
 cell true t = rw and-true (number t sameCell)
 cell false t = refl
 
--- order at one position, and conflict, by tests of the kinds
+-- conflict by tests of the kinds
 module _ (a b x y : Bool) (u v q k : ℕ) where
-  pub level-kinds : ((a && (not x || ltb u v)) || (not a && (not b && (not x && (not y && ltb q k)))))
-      ≡ deedBefore (deedBy a b (u ∷ []) u q) (deedBy x y (v ∷ []) v k)
-  unfolding key
-  level-kinds =
-      elim a [
-        | true ↦ elim x [ true ↦ or-false (ltb u v) | false ↦ elim y [ true ↦ refl | false ↦ refl ] ]
-        | false ↦ elim b [ true ↦ refl | false ↦ elim x [ true ↦ refl | false ↦ elim y [ true ↦ refl | false ↦ refl ] ] ]
-      ]
-
   pub clash-kinds : (p s : ℕ)
       → ruleNumber (clash (at p (deedBy a b (u ∷ []) u q)) (at s (deedBy x y (v ∷ []) v k)))
       ≡ cond (a && x) (cond (eqb u v) 3 0) (cond (a || x) 0 (cond (eqb p s) (cond (b || y) 1 (cond (eqb q k) 2 0)) 0))
@@ -149,7 +131,8 @@ pub before-by : (d e : Head) → (ltb (d .pos) (e .pos) || (eqb (d .pos) (e .pos
     || (not (eqb (d .kind) ADD) && (not (eqb (d .kind) STRIKE)
     && (not (eqb (e .kind) ADD) && (not (eqb (e .kind) STRIKE) && ltb (d .kind) (e .kind))))))))
     ≡ before (seen d) (seen e)
+unfolding key
 before-by d e =
     ap (λ (t : Bool). ltb (d .pos) (e .pos) || (eqb (d .pos) (e .pos) && t))
-    (level-kinds (eqb (d .kind) ADD) (eqb (d .kind) STRIKE) (eqb (e .kind) ADD) (eqb (e .kind) STRIKE) (d .first)
-    (e .first) (d .kind) (e .kind))
+    (by-kinds (eqb (d .kind) ADD) (eqb (d .kind) STRIKE) (eqb (e .kind) ADD) (eqb (e .kind) STRIKE) (d .first ∷ [])
+    (e .first ∷ []) (d .first) (e .first) (d .kind) (e .kind))

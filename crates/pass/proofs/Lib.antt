@@ -6,6 +6,5 @@ pub mod Looking
 pub mod Renumbering
 pub mod Stages
 pub mod Sides
-pub mod Readback
 pub mod Promises
 pub mod Examples

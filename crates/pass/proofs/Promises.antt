@@ -28,6 +28,7 @@ use Rattle.model.specs.Past.{Past}
 use Rattle.model.specs.Refusals.{Test, refuse, refusal, firstMet, breaksForm}
 use Rattle.model.specs.Calls.{written, movedLayer, moveAnswer}
 use Rattle.model.proofs.Raw.{layer-length, args-held}
+use Rattle.model.proofs.Readback.{read-back}
 use Rattle.model.proofs.Count.{read-length}
 use Rattle.model.proofs.Conflict.{conflicting, of-conflicting}
 use Rattle.model.proofs.Position as position
@@ -37,7 +38,6 @@ use Rattle.pass.specs.Stages.{formTests, fitTests, passTests}
 use Rattle.pass.specs.Promises.{Outcome, PassesFour, Lowest, MovedPast, BothOrders}
 use Rattle.pass.proofs.Stages.{Passed, stage-passed, passed-append, third-answers, thirdStage, conflict-place}
 use Rattle.pass.proofs.Sides.{Sides, forms, sides, fit-of, Moves, moves}
-use Rattle.pass.proofs.Readback.{read-back}
 
 -- any two outcomes that the contract allows are one
 pub move-unique : (c : ℕ) (K : List ℕ) (mx : ℕ) (x : List ℕ) (my : ℕ) (y : List ℕ) (r s : Answer) (x′ z′ : List ℕ)
@@ -129,21 +129,20 @@ module _ (c : ℕ) (K : List ℕ) (mx : ℕ) (x : List ℕ) (my : ℕ) (y : List
 moved-entries : (X Y : Layer) → length (move X Y) ≡ length X
 moved-entries X Y = length-map X (moved Y)
 
+-- each of the kind that it was
+moved-kind : (Y : Layer) (e : Edit) → (isAdd (moved Y e) ≡ isAdd e) × (isStrike (moved Y e) ≡ isStrike e)
+moved-kind Y (at s (add r)) = (refl, refl)
+moved-kind Y (at s (strike k)) = (refl, refl)
+moved-kind Y (at s (change j f)) = (refl, refl)
+
 moved-adds : (X Y : Layer) → count isAdd (move X Y) ≡ count isAdd X
-moved-adds X Y = count-map (moved Y) isAdd X ∙ count-same (λ e. isAdd (moved Y e)) isAdd X (λ e m. each e)
-  where
-    each : (e : Edit) → one (isAdd (moved Y e)) ≡ one (isAdd e)
-    each (at s (add r)) = refl
-    each (at s (strike k)) = refl
-    each (at s (change j f)) = refl
+moved-adds X Y =
+    count-map (moved Y) isAdd X ∙ count-same (λ e. isAdd (moved Y e)) isAdd X (λ e m. ap one (moved-kind Y e .0))
 
 moved-strikes : (X Y : Layer) → count isStrike (move X Y) ≡ count isStrike X
-moved-strikes X Y = count-map (moved Y) isStrike X ∙ count-same (λ e. isStrike (moved Y e)) isStrike X (λ e m. each e)
-  where
-    each : (e : Edit) → one (isStrike (moved Y e)) ≡ one (isStrike e)
-    each (at s (add r)) = refl
-    each (at s (strike k)) = refl
-    each (at s (change j f)) = refl
+moved-strikes X Y =
+    count-map (moved Y) isStrike X
+    ∙ count-same (λ e. isStrike (moved Y e)) isStrike X (λ e m. ap one (moved-kind Y e .1))
 
 -- Demand 3, the half that accepts: where neither way is refused, both orders, read by the reading rule, are one
 -- table: the first set done, then the second redone by key.

@@ -8,10 +8,9 @@ use mathlib.Core.List.{List, [], _∷_, _++_, map}
 use lib.ListN.{length, length-map, length-append}
 use lib.Seq.{length-take-le}
 use lib.Dec.{ltb, leb, eqb}
-use borrow.Author.Tests.{not-false, ltb-false, ltb-true, leb-true, eq-eqb}
+use borrow.Author.Tests.{not-false, ltb-false, ltb-true, leb-true}
 use Rattle.order.specs.Lists.{ascending, count, gather}
 use Rattle.order.proofs.Tests.{and-l, and-r}
-use Rattle.order.proofs.Pairs.{broken-le}
 use Rattle.order.proofs.Ascending.{below, asc-of}
 use Rattle.model.specs.declared.Answer.the-variants.{Done}
 use Rattle.model.specs.Row.{Table, key, keys}
@@ -19,21 +18,16 @@ use Rattle.model.specs.Cell.{to}
 use Rattle.model.specs.Layer.{add, strike, change, Edit, at, Layer, position, rowsAfter}
 use Rattle.model.specs.Raw.{numbersOf, layerOf, flat}
 use Rattle.model.specs.Form.{sound, argsOk}
-use Rattle.model.specs.Fit.{suits, rises, fitPlace, fits}
 use Rattle.model.specs.Conflict.{conflict}
 use Rattle.model.specs.Move.{moved, move}
-use Rattle.model.specs.Refusals.{breaksForm}
-use Rattle.model.specs.Calls.{formAnswer, moveAnswer}
-use Rattle.model.proofs.Fit.{Fit, Good, good-of}
+use Rattle.model.specs.Calls.{moveAnswer}
+use Rattle.model.proofs.Fit.{fits-all, Fit, Good, good-of}
+use Rattle.model.proofs.Column.{singles, keys-singles}
 use Rattle.form.specs.InForm.{InForm}
-use Rattle.form.proofs.Accepted.{accepted, Fitted}
+use Rattle.form.proofs.Accepted.{accepted, in-form-by, Fitted}
 use Rattle.pass.specs.Walk.{Walkable, Movable}
 use Rattle.pass.specs.Stages.{formTests, fitTests, passTests, Weighed}
 use Rattle.pass.proofs.Stages.{Passed, stage-passed, passed-append, move-stages}
-
-in-form : (c n m : ℕ) (xs : List ℕ) → argsOk c n m (length xs) ≡ true → breaksForm c n m xs ≡ false → InForm c n m xs
-unfolding formAnswer
-in-form c n m xs a b = rw (a, b)
 
 -- stage 1 accepts
 pub forms : (c n mx : ℕ) (x : List ℕ) (my : ℕ) (y : List ℕ) → Passed (formTests c n mx x my y)
@@ -41,15 +35,9 @@ pub forms : (c n mx : ℕ) (x : List ℕ) (my : ℕ) (y : List ℕ) → Passed (
 unfolding formTests
 forms c n mx x my y p =
     let ok = not-false (argsOk c n mx (length x) && argsOk c n my (length y)) (p .0) in (
-      in-form c n mx x (and-l (argsOk c n mx (length x)) (argsOk c n my (length y)) ok) (p .1 .0),
-      in-form c n my y (and-r (argsOk c n mx (length x)) (argsOk c n my (length y)) ok) (p .1 .1 .0),
+      in-form-by c n mx x (and-l (argsOk c n mx (length x)) (argsOk c n my (length y)) ok) (p .1 .0),
+      in-form-by c n my y (and-r (argsOk c n mx (length x)) (argsOk c n my (length y)) ok) (p .1 .1 .0),
     )
-
-fits-all : (K : List ℕ) (L : Layer) → ltb (fitPlace K L) (length L) ≡ false → fits K L ≡ true
-unfolding fits fitPlace
-fits-all K L h =
-    eq-eqb (fitPlace K L) (length L)
-    (omega (arith, ltb-false (fitPlace K L) (length L) h, broken-le (suits K L) rises [] L))
 
 -- X and Y both fit the keys
 pub record Sides (c : ℕ) (K : List ℕ) (mx : ℕ) (x : List ℕ) (my : ℕ) (y : List ℕ) : Type 0 where
@@ -74,22 +62,13 @@ sides c K mx x my y f g p = record {
   };
 }
 
--- the table of one column that has the keys
-abbrev alone : List ℕ → Table
-alone K = map (λ k. k ∷ []) K
-
-alone-keys : (K : List ℕ) → keys (alone K) ≡ K
-unfolding key
-alone-keys [] = refl
-alone-keys (k ∷ K) = ap (λ (l : List ℕ). k ∷ l) (alone-keys K)
-
 pub fit-of : (c : ℕ) (T : Table) (m : ℕ) (xs : List ℕ) → Fitted c m xs (keys T) → Good c T (layerOf c m xs)
 fit-of c T m xs F =
     good-of c T (layerOf c m xs) (asc-of key T (F .rising)) (rw (sym (length-map T key)) (F .form .ordered)) (F .fit)
 
 module _ (c : ℕ) (K : List ℕ) (mx : ℕ) (x : List ℕ) (my : ℕ) (y : List ℕ) (S : Sides c K mx x my y) where
-  fit-alone : (m : ℕ) (xs : List ℕ) → Fitted c m xs K → Fit (alone K) (layerOf c m xs)
-  fit-alone m xs F = fit-of c (alone K) m xs (rw alone-keys F) .fit
+  fit-alone : (m : ℕ) (xs : List ℕ) → Fitted c m xs K → Fit (singles K) (layerOf c m xs)
+  fit-alone m xs F = fit-of c (singles K) m xs (rw keys-singles F) .fit
 
   pub walkable : Walkable c mx x my y
   walkable =
@@ -102,7 +81,7 @@ module _ (c : ℕ) (K : List ℕ) (mx : ℕ) (x : List ℕ) (my : ℕ) (y : List
           mine = FX .sorted;
           theirs = FY .sorted;
           level = λ p s q r m n e.
-              sym (FX .sits p q m) ∙ (ap (λ (k : ℕ). count (below key k) (alone K)) e ∙ FY .sits s r n);
+              sym (FX .sits p q m) ∙ (ap (λ (k : ℕ). count (below key k) (singles K)) e ∙ FY .sits s r n);
         };
       }
 

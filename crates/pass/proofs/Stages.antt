@@ -11,18 +11,17 @@ use lib.Dec.{ltb}
 use borrow.Author.Tests.{lt-ltb, le-ltb}
 use Rattle.order.specs.Lists.{ascending, any, firstAt}
 use Rattle.order.proofs.Tests.{and-l, and-r, same-test, tests}
-use Rattle.order.proofs.Pairs.{broken-le}
 use Rattle.model.specs.declared.Refusal.{Refusal}
 use Rattle.model.specs.declared.Answer.{Answer}
 use Rattle.model.specs.declared.Answer.the-variants.{Done, Refused}
 use Rattle.model.specs.Layer.{Layer, rowsAfter}
-use Rattle.model.specs.Raw.{entriesOf, editOf, layerOf}
-use Rattle.model.specs.Form.{zeros, sound, follows, formPlace, argsOk}
+use Rattle.model.specs.Raw.{entriesOf, layerOf}
+use Rattle.model.specs.Form.{formPlace, argsOk}
 use Rattle.model.specs.Fit.{fitPlace}
 use Rattle.model.specs.Conflict.{clashesWith, conflict, conflictPlace}
 use Rattle.model.specs.Refusals.{Test, refuse, refusal, firstMet, badForm, breaksForm}
 use Rattle.model.specs.Calls.{formAnswer, moveAnswer}
-use Rattle.model.proofs.Raw.{entries-length, layer-length, args-held}
+use Rattle.model.proofs.Raw.{layer-length, form-place, args-held}
 use Rattle.form.proofs.Accepted.{accepted}
 use Rattle.form.proofs.Answers.{onward, raised, form-row}
 use Rattle.pass.specs.Stages.{formTests, fitTests, passTests, Weighed}
@@ -88,15 +87,6 @@ pub passed-append : (ts us : List Test) → Passed (ts ++ us) → Passed ts × P
 passed-append [] us p = (tt, p)
 passed-append (refuse n q t ∷ ts) us p = let w = passed-append ts us (p .1) in ((p .0, w .0), w .1)
 
-form-place-le : (c n m : ℕ) (xs : List ℕ) → formPlace c n (entriesOf c m xs) ≤ m
-unfolding formPlace
-form-place-le c n m xs =
-    omega (
-      arith,
-      entries-length c m 0 xs,
-      broken-le (λ e. zeros e && sound c n (editOf e)) (λ d e. follows (editOf d) (editOf e)) [] (entriesOf c m xs),
-    )
-
 placed : (t : Bool) (p k : ℕ) (r : Refusal) → cond t (Refused (refusal 2 p)) (Done k) ≡ Refused r → r .place ≡ p
 placed true p k r h = cc
 placed false p k r h = absurd (let w : _≡_ {A = ℕ} 0 1 = cc in omega arith)
@@ -143,7 +133,7 @@ module _ (c n mx : ℕ) (x : List ℕ) (my : ℕ) (y : List ℕ) where
             arith,
             placed (breaksForm c n my y) (0 + formPlace c n (entriesOf c my y)) (rowsAfter n (layerOf c my y)) r
                 (rw ok-theirs at h),
-            form-place-le c n my y,
+            form-place c n my y,
             args-held c n my y ok-theirs .0 .entries,
           )
 
@@ -202,24 +192,16 @@ module _ (c n rows mx : ℕ) (x : List ℕ) (my : ℕ) (y : List ℕ) (W : Weigh
   unfolding passTests
   clash-refused h = rw (conflict-place (layerOf c mx x) (layerOf c my y), layer-length c mx x, ← ep, lt-ltb p mx h)
 
-  pub rows-refused : mx ≤ p → 4096 + n < rows → Refused (refusal 10 0) ≡ passing
+  abbrev rowsInAll : ℕ
+  rowsInAll = rowsAfter (rowsAfter n (layerOf c my y)) (layerOf c mx x)
+
+  -- no conflict: the rows decide
+  by-rows : mx ≤ p → cond (ltb 4096 rowsInAll) (Refused (refusal 10 0)) (Done mx) ≡ passing
   unfolding passTests
-  rows-refused h g =
-      rw (
-        conflict-place (layerOf c mx x) (layerOf c my y),
-        layer-length c mx x,
-        ← ep,
-        le-ltb p mx h,
-        lt-ltb 4096 (rowsAfter (rowsAfter n (layerOf c my y)) (layerOf c mx x)) (omega (arith, W .strikes, W .total)),
-      )
+  by-rows h = rw (conflict-place (layerOf c mx x) (layerOf c my y), layer-length c mx x, ← ep, le-ltb p mx h)
+
+  pub rows-refused : mx ≤ p → 4096 + n < rows → Refused (refusal 10 0) ≡ passing
+  rows-refused h g = rw (lt-ltb 4096 rowsInAll (omega (arith, W .strikes, W .total))) at (by-rows h)
 
   pub passes : mx ≤ p → rows ≤ 4096 + n → Done mx ≡ passing
-  unfolding passTests
-  passes h g =
-      rw (
-        conflict-place (layerOf c mx x) (layerOf c my y),
-        layer-length c mx x,
-        ← ep,
-        le-ltb p mx h,
-        le-ltb 4096 (rowsAfter (rowsAfter n (layerOf c my y)) (layerOf c mx x)) (omega (arith, W .strikes, W .total)),
-      )
+  passes h g = rw (le-ltb 4096 rowsInAll (omega (arith, W .strikes, W .total))) at (by-rows h)

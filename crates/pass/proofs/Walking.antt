@@ -21,7 +21,7 @@ use Rattle.model.specs.Position.{addUpTo, strikeBefore, rowOf}
 use Rattle.model.specs.Edits.{deedBefore, before}
 use Rattle.model.specs.Conflict.{Rule, none, struckRow, sameCell, sameKey, clash, met, clashesWith}
 use Rattle.model.specs.Move.{addBefore, addHereBelow, addPosition, moved}
-use Rattle.model.proofs.Edits.{before-cases, before-lt, before-eq, before-trans, before-follows}
+use Rattle.model.proofs.Edits.{before-cases, before-lt, before-eq, before-trans, before-follows, deed-key}
 use Rattle.model.proofs.Position.{strikes-few}
 use Rattle.pass.specs.Walk.{passed, ahead, ruleAhead, Matched}
 
@@ -174,12 +174,7 @@ module _ (X Y : Layer) (M : Matched X Y) where
   first-meets (at s (add r)) (at p d) (at z (add q)) m n h g t =
       let k : key r ≡ key q = eqb-true (key r) (key q) (met-test (eqb (key r) (key q)) sameKey t) in
       let z-s = sym (M .level s z r q m n k) in
-      absurd (true≢false (sym h ∙ (same-before p z s d (add q) (add r) z-s (level d (sym k)) ∙ g)))
-    where
-      level : (d : Deed) → key q ≡ key r → deedBefore d (add q) ≡ deedBefore d (add r)
-      level (add x) k = rw k
-      level (strike l) k = refl
-      level (change j f) k = refl
+      absurd (true≢false (sym h ∙ (same-before p z s d (add q) (add r) z-s (deed-key d q r (sym k)) ∙ g)))
   first-meets (at s (add r)) (at p d) (at z (strike k)) m n h g t = absurd (true≢false (sym t))
   first-meets (at s (add r)) (at p d) (at z (change j f)) m n h g t = absurd (true≢false (sym t))
   first-meets (at s (strike l)) (at p d) (at z (add q)) m n h g t = absurd (true≢false (sym t))

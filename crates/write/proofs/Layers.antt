@@ -17,7 +17,6 @@ use native.Mathlib.Nat.{
 }
 use native.Mathlib.Omega.{arith}
 use mathlib.Core.Path.{_≡_, refl, sym, ap, _∙_}
-use mathlib.Core.Bool.{true}
 use mathlib.Core.List.{
   List,
   [],
@@ -29,12 +28,9 @@ use mathlib.Core.List.{
   List·Memᴰ·tail as next,
   List·Memᴰ·not-nil as not-nil,
 }
-use lib.ListN.{length, take, drop, set, replicate, length-append, length-drop, length-replicate, take-append-drop}
+use lib.ListN.{length, take, drop, set, replicate, length-append, length-drop, take-append-drop}
 use lib.Seq.{take-nil, length-take-le, take-at, drop-at, take-take, set-append-left}
-use lib.Dec.{leb, eqb}
-use borrow.Author.Tests.{eqb-true}
 use Rattle.order.specs.Lists.{gather}
-use Rattle.order.proofs.Tests.{and-r}
 use Rattle.order.proofs.Ascending.{At, at-length}
 use Rattle.order.proofs.Edited.{at-head, at-tail, at-none}
 use Rattle.model.specs.declared.Answer.the-variants.{Done}
@@ -42,9 +38,9 @@ use Rattle.model.specs.Row.{Row}
 use Rattle.model.specs.Cell.{to, put}
 use Rattle.model.specs.Layer.{Edit, at, add, strike, change, Layer}
 use Rattle.model.specs.Raw.{numbersOf, flat, strikeEntry, changeEntry}
-use Rattle.model.specs.Form.{sound}
 use Rattle.model.specs.Edits.{changeAdded}
 use Rattle.model.specs.Calls.{edited}
+pub use Rattle.model.proofs.Readback.{sound-wide}
 use Rattle.write.specs.Replaced.{entryNumbers, movedTail, replaced}
 
 -- the new entry's numbers are those of its edit
@@ -70,11 +66,6 @@ module _ (c s v : ℕ) (l : 1 ≤ c) (h : c ≤ 8) where
 -- Every edit has c + 2 numbers.
 abbrev pub Wide : ℕ → Layer → Type 0
 Wide c L = (e : Edit) → Mem e L → length (numbersOf c e) ≡ c + 2
-
-pub sound-wide : (c n : ℕ) → 1 ≤ c → (e : Edit) → sound c n e ≡ true → length (numbersOf c e) ≡ c + 2
-sound-wide c n l (at s (add r)) h = omega (arith, eqb-true (length r) c (and-r (leb s n) (eqb (length r) c) h))
-sound-wide c n l (at s (strike k)) h = omega (arith, length-replicate {A = ℕ} (c - 1) 0)
-sound-wide c n l (at s (change j (to v))) h = omega (arith, length-replicate {A = ℕ} (c - 1) 0)
 
 pub flat-append : (c : ℕ) (L M : Layer) → flat c (L ++ M) ≡ flat c L ++ flat c M
 unfolding flat

@@ -7,8 +7,9 @@ use Rattle.model.specs.declared.Back.the-variants as backed
 use Rattle.model.specs.Raw.{layerOf}
 use Rattle.model.specs.Position.{back}
 use Rattle.model.specs.Calls.{originAnswer}
+use Rattle.model.proofs.Origin.{origin-never}
 use Rattle.edit.proofs.Known.{Known, known}
-use Rattle.edit.proofs.Rows.{origin-never, base-stands, change-of-base, added-below, change-of-added}
+use Rattle.edit.proofs.Rows.{base-stands, change-of-base, added-below, change-of-added}
 use Rattle.edit.proofs.change_row.Statement.{statement}
 use Rattle.edit.proofs.change_row.Tie as tie
 

@@ -9,8 +9,9 @@ use Rattle.model.specs.declared.Back.the-variants as backed
 use Rattle.model.specs.Raw.{layerOf}
 use Rattle.model.specs.Position.{back}
 use Rattle.model.specs.Calls.{originAnswer}
+use Rattle.model.proofs.Origin.{origin-never}
 use Rattle.edit.proofs.Known.{Known, known}
-use Rattle.edit.proofs.Rows.{origin-never, base-stands, strike-of-base, added-below, strike-of-added}
+use Rattle.edit.proofs.Rows.{base-stands, strike-of-base, added-below, strike-of-added}
 use Rattle.edit.proofs.strike_row.Statement.{statement}
 use Rattle.edit.proofs.strike_row.Tie as tie
 
