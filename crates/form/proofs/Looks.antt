@@ -3,7 +3,7 @@
 use Prim.Native.Nat.{ℕ, zero, suc, _+_, _-_, _≤_, _<_}
 use native.Mathlib.Omega.{arith}
 use mathlib.Core.Path.{_≡_, refl, ap, _∙_}
-use mathlib.Core.Bool.{Bool, true, false, _&&_, _||_, or-false}
+use mathlib.Core.Bool.{Bool, true, false, not, _&&_, _||_, or-false}
 use mathlib.Core.List.{List, [], _∷_}
 use lib.ListN.{length, getD}
 use lib.Dec.{leb, ltb, eqb}
@@ -50,6 +50,15 @@ module _ (K : List ℕ) (e : Entry) (es : List Entry) where
   pub suits-change : (e .kind ≡ ADD → ⊥) → (e .kind ≡ STRIKE → ⊥) → suitsAhead K e es ≡ true
   unfolding suitsAhead
   suits-change g h = rw (ne-eqb (e .kind) ADD g, ne-eqb (e .kind) STRIKE h)
+
+-- an entry that is no add may stand after any other
+pub rises-other : (p q u s k v : ℕ) → (k ≡ ADD → ⊥) → risesKind p q u s k v ≡ true
+rises-other p q u s k v h = rw (ne-eqb k ADD h) (by (eqb p s) (eqb q ADD))
+  where
+    by : (a b : Bool) → not a || (not b || true) ≡ true
+    by true true = refl
+    by true false = refl
+    by false b = refl
 
 -- where it may stand
 module _ (c n : ℕ) (e : Entry) (s : sound c n (editOf e) ≡ true) where

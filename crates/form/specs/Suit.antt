@@ -31,9 +31,13 @@ suitsAhead K e es =
 abbrev pub risesKind : ℕ → ℕ → ℕ → ℕ → ℕ → ℕ → Bool
 risesKind p q u s k v = not (eqb p s) || (not (eqb q ADD) || (not (eqb k ADD) || ltb u v))
 
+-- the entry e, the first of es, breaks no rule alone, nor after one at p of kind q and first value u
+abbrev pub fitsAfter : List ℕ → ℕ → ℕ → ℕ → Entry → List Entry → Bool
+fitsAfter K p q u e es = suitsAhead K e es && risesKind p q u (e .pos) (e .kind) (first e)
+
 -- how many entries stand before the first that breaks a rule, after one at p of kind q and first value u
 unfoldable pub fitFrom : List ℕ → ℕ → ℕ → ℕ → List Entry → ℕ
 fitFrom K p q u [] = 0
 fitFrom K p q u (e ∷ es) =
-    cond (suitsAhead K e (e ∷ es) && risesKind p q u (e .pos) (e .kind) (first e))
+    cond (fitsAfter K p q u e (e ∷ es))
     (suc (fitFrom K (e .pos) (e .kind) (first e) es)) 0

@@ -141,7 +141,7 @@ pub fn fit_place(c: usize, m: usize, layer: &[u64], keys: &[u64]) -> usize
         let s = layer[at];
         let k = layer[at + 1];
         let v = layer[at + 2];
-        if !(suit::suits_keys(c, m, i, at, layer, keys) & suit::rises(p, q, u, s, k, v)) {
+        if !suit::fits_after(c, m, i, at, layer, keys, p, q, u) {
             return i;
         }
         p = s;

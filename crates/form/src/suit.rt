@@ -4,10 +4,10 @@ ghost use mathlib.Core.Path.{_≡_};
 ghost use mathlib.Core.Bool.{true};
 ghost use Prim.Native.Nat.{_+_, _*_, _-_, _≤_, _<_};
 ghost use lib.ListN.{length};
-ghost use Rattle.model.specs.Raw.{entryAt, entriesAt, editOf};
+ghost use Rattle.model.specs.Raw.{ADD, entryAt, entriesAt, editOf};
 ghost use Rattle.model.specs.Form.{sound};
 ghost use Rattle.model.specs.Fit.{above};
-ghost use Rattle.form.specs.Suit.{struckAhead, underAhead, suitsAhead, risesKind};
+ghost use Rattle.form.specs.Suit.{struckAhead, underAhead, risesKind, fitsAfter};
 
 // An add equal to the base key at s looks ahead: a strike stands among the entries at s from entry i on, at `from`.
 fn strike_ahead(c: usize, m: usize, i: usize, from: usize, s: u64, layer: &[u64]) -> bool
@@ -64,28 +64,39 @@ fn under_next(
     strike_ahead(c, m, i, at, s as u64, layer)
 }
 
-// Entry i, which stands from `at`, breaks no rule of fit alone.
-pub fn suits_keys(c: usize, m: usize, i: usize, at: usize, layer: &[u64], keys: &[u64]) -> bool
+// An add at s with key v may stand after an entry at p of kind q and first value u.
+fn rises(p: u64, q: u64, u: u64, s: u64, v: u64) -> bool
+    ensures { λ r. ⌜ r ≡ risesKind p q u s ADD v ⌝ }
+{
+    (p != s) | ((q != Entry::ADD) | (u < v))
+}
+
+// Entry i, which stands from `at`, breaks no rule of fit alone, nor after one at p of kind q and first value u.
+pub fn fits_after(
+    c: usize,
+    m: usize,
+    i: usize,
+    at: usize,
+    layer: &[u64],
+    keys: &[u64],
+    p: u64,
+    q: u64,
+    u: u64,
+) -> bool
     requires { ⌜ (at + (m - i) * (c + 2) ≤ length (now layer)) × (at + (c + 2) ≤ length (now layer)) × (1 ≤ c)
         × (sound c (length (now keys)) (editOf (entryAt c at (now layer))) ≡ true) ⌝ }
-    ensures { λ r. ⌜ r ≡ suitsAhead (now (keys .entry)) (entryAt c at (now (layer .entry)))
+    ensures { λ r. ⌜ r ≡ fitsAfter (now (keys .entry)) p q u (entryAt c at (now (layer .entry)))
         (entriesAt c (m - i) at (now (layer .entry))) ⌝ }
 {
     let s = layer[at] as usize;
     let k = layer[at + 1];
     let v = layer[at + 2];
     if k == Entry::ADD {
-        return above_last(s, v, keys) & under_next(c, m, i, at, s, v, layer, keys);
+        return (above_last(s, v, keys) & under_next(c, m, i, at, s, v, layer, keys))
+            & rises(p, q, u, s as u64, v);
     }
     if k == Entry::STRIKE {
         return keys[s] == v;
     }
     true
-}
-
-// An entry at s of kind k and first value v may stand after one at p of kind q and first value u.
-pub fn rises(p: u64, q: u64, u: u64, s: u64, k: u64, v: u64) -> bool
-    ensures { λ r. ⌜ r ≡ risesKind p q u s k v ⌝ }
-{
-    (p != s) | ((q != Entry::ADD) | ((k != Entry::ADD) | (u < v)))
 }

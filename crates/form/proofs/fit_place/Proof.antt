@@ -4,7 +4,6 @@ use borrow.Author.Needs.{needs}
 use borrow.Author.Tests.{not-true, not-false}
 use native.Mathlib.Omega.{arith}
 use mathlib.Core.Path.{_≡_, sym, _∙_}
-use mathlib.Core.Bool.{_&&_}
 use Prim.Native.Nat.{_+_, _-_, _≤_}
 use lib.ListN.{length}
 use Rattle.model.proofs.Raw.{here}
@@ -27,17 +26,13 @@ room c =
     let l = c .before .loop in
     here (a .c) (a .m) (l .i) (l .at) (length (a .layer .now)) (c .loop-test .taken) (l .inv .room)
 
--- what the two tests of a turn say together
-judged : (c : tie.After-rises Inv-loop μ-loop) →
-    let l = c .before .before .before .before .before .before in
+-- what the test of a turn says
+judged : (c : tie.After-fits-after Inv-loop μ-loop) →
+    let l = c .before .before .before .before .before in
     let a = l .before .before .before .args in
-    (c .before .suits-keys .result && c .rises .result)
+    c .fits-after .result
     ≡ fine (a .c) (a .m) (l .loop .i) (l .loop .at) (a .layer .now) (a .keys .now) (l .loop .p) (l .loop .q) (l .loop .u)
-judged c =
-    let l = c .before .before .before .before .before .before in
-    let a = l .before .before .before .args in
-    let f = first-at (a .c) (l .loop .at) (a .layer .now) (l .loop .inv .some) in
-    rw (c .before .suits-keys .ensures, c .rises .ensures, f)
+judged c = c .fits-after .ensures
 
 loop-holds : tie.Need-loop-holds Inv-loop μ-loop
 loop-holds c = begin _ _ _ _ (c .before .before .pre)
@@ -68,25 +63,22 @@ shared-slice-read-v c =
     let t = c .before .before .before in
     omega (arith, room t, t .before .loop .inv .some)
 
-suits-keys-requires : tie.Need-suits-keys-requires Inv-loop μ-loop
-suits-keys-requires c κs =
+fits-after-requires : tie.Need-fits-after-requires Inv-loop μ-loop
+fits-after-requires c κs =
     let t = c .before .before .before in
     let inv = t .before .loop .inv in
     (inv .room, room t, inv .some, sound-here inv (t .loop-test .taken))
 
-rises-requires : tie.Need-rises-requires Inv-loop μ-loop
-rises-requires c κs = search needs
-
 returns : tie.Need-returns Inv-loop μ-loop
 returns c =
-    let t = c .before .before .before .before .before .before in
+    let t = c .before .before .before .before .before in
     stop (t .before .loop .inv) (t .loop-test .taken) (sym (judged (c .before)) ∙ not-true _ (c .if1 .taken))
 
 add-at : tie.Need-add-at Inv-loop μ-loop
-add-at c = omega (arith, room (c .before .before .before .before .before .before))
+add-at c = omega (arith, room (c .before .before .before .before .before))
 
 add-at-2 : tie.Need-add-at-2 Inv-loop μ-loop
-add-at-2 c = omega (arith, room (c .before .before .before .before .before .before))
+add-at-2 c = omega (arith, room (c .before .before .before .before .before))
 
 add-i : tie.Need-add-i Inv-loop μ-loop
 add-i c = search needs
@@ -96,7 +88,7 @@ loop-less c = search needs
 
 loop-again : tie.Need-loop-again Inv-loop μ-loop
 loop-again c =
-    let t = c .before .before .before .before .before .before in
+    let t = c .before .before .before .before .before in
     let l = t .before in
     let a = l .before .before .before .args in
     rw (← first-at (a .c) (l .loop .at) (a .layer .now) (l .loop .inv .some))
@@ -120,8 +112,7 @@ fit-place-spec =
     add-v
     mul-v
     shared-slice-read-v
-    suits-keys-requires
-    rises-requires
+    fits-after-requires
     returns
     add-at
     add-at-2

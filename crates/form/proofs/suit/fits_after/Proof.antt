@@ -1,14 +1,23 @@
--- `form::suit::suits_keys` meets its contract: by the entry's kind, what is left of the rules is one test.
+-- `form::suit::fits_after` meets its contract: by the entry's kind, what is left of the rules is one test.
 -- Assumes nothing.
 use borrow.Author.Needs.{needs}
 use native.Mathlib.Omega.{arith}
-use mathlib.Core.Path.{sym}
+use mathlib.Core.Bool.{and-true}
 use Prim.Native.Nat.{_-_, _<_}
 use lib.ListN.{length, getD}
 use Rattle.model.specs.Raw.{entryAt, entriesAt}
-use Rattle.form.proofs.Looks.{suits-add, suits-strike, suits-change, sound-add, sound-strike, first-at}
-use Rattle.form.proofs.suit.suits_keys.Statement.{statement}
-use Rattle.form.proofs.suit.suits_keys.Tie as tie
+use Rattle.form.specs.Suit.{first}
+use Rattle.form.proofs.Looks.{
+  suits-add,
+  suits-strike,
+  suits-change,
+  rises-other,
+  sound-add,
+  sound-strike,
+  first-at,
+}
+use Rattle.form.proofs.suit.fits_after.Statement.{statement}
+use Rattle.form.proofs.suit.fits_after.Tie as tie
 
 mul-s : tie.Need-mul-s
 mul-s c = search needs
@@ -43,16 +52,22 @@ above-last-requires c κs =
 under-next-requires : tie.Need-under-next-requires
 under-next-requires c κs = search needs
 
+rises-requires : tie.Need-rises-requires
+rises-requires c κs = search needs
+
 returns : tie.Need-returns
 returns c =
-    let s = c .before .before .before .before .before .before .before .before in
+    let s = c .before .before .before .before .before .before .before .before .before in
     let a = s .args in
     let xs = a .layer .now in
+    let e = entryAt (a .c) (a .at) xs in
+    let add = c .before .before .before .if1 .taken in
     rw (
-      c .before .above-last .ensures,
-      c .under-next .ensures,
-      suits-add (a .keys .now) (entryAt (a .c) (a .at) xs) (entriesAt (a .c) (a .m - a .i) (a .at) xs)
-          (c .before .before .if1 .taken),
+      c .before .before .above-last .ensures,
+      c .before .under-next .ensures,
+      c .rises .ensures,
+      suits-add (a .keys .now) e (entriesAt (a .c) (a .m - a .i) (a .at) xs) add,
+      add,
       first-at (a .c) (a .at) xs (s .pre .2),
     )
 
@@ -76,21 +91,26 @@ returns-2 c =
     let s = c .before .before .before .before .before .before .before .before in
     let a = s .args in
     let xs = a .layer .now in
+    let e = entryAt (a .c) (a .at) xs in
     rw (
-      suits-strike (a .keys .now) (entryAt (a .c) (a .at) xs) (entriesAt (a .c) (a .m - a .i) (a .at) xs)
-          (c .before .if2 .taken),
+      suits-strike (a .keys .now) e (entriesAt (a .c) (a .m - a .i) (a .at) xs) (c .before .if2 .taken),
+      rises-other (a .p) (a .q) (a .u) (e .pos) (e .kind) (first e) (c .before .before .if1 .left),
       first-at (a .c) (a .at) xs (s .pre .2),
+      and-true,
     )
 
 returns-3 : tie.Need-returns-3
 returns-3 c =
     let a = c .before .before .before .before .before .before .before .args in
     let xs = a .layer .now in
-    sym (suits-change (a .keys .now) (entryAt (a .c) (a .at) xs) (entriesAt (a .c) (a .m - a .i) (a .at) xs)
-    (c .before .if1 .left) (c .if2 .left))
+    let e = entryAt (a .c) (a .at) xs in
+    rw (
+      suits-change (a .keys .now) e (entriesAt (a .c) (a .m - a .i) (a .at) xs) (c .before .if1 .left) (c .if2 .left),
+      rises-other (a .p) (a .q) (a .u) (e .pos) (e .kind) (first e) (c .before .if1 .left),
+    )
 
-pub suits-keys-spec : {M : Type 1} → statement M
-suits-keys-spec =
+pub fits-after-spec : {M : Type 1} → statement M
+fits-after-spec =
     tie.close
     (tie.spec
     mul-s
@@ -103,6 +123,7 @@ suits-keys-spec =
     shared-slice-read-v
     above-last-requires
     under-next-requires
+    rises-requires
     returns
     mul-result
     shared-slice-read-result
