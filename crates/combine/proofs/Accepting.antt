@@ -65,7 +65,7 @@ within-rows c n m xs h =
     ((or-false (ltb (formPlace c n (entriesOf c m xs)) m) (ltb mostRows (rowsAfter n (layerOf c m xs))) h) .1)
 
 pub record Accepts (c : ℕ) (K : List ℕ) (mR : ℕ) (rawR : List ℕ) (mW : ℕ) (rawW : List ℕ) (len m : ℕ) : Type 0 where
-  pub fit : Fits c K (keysAfter K (layerOf c mR rawR)) mR rawR mW rawW
+  pub fit : Fits c K mR rawR mW rawW
   pub size : length (combinedLayer c K mR rawR mW rawW) ≡ m
   pub room-left : m ≤ room c len
 
@@ -107,12 +107,9 @@ module _ (c : ℕ) (K : List ℕ) (mR : ℕ) (rawR : List ℕ) (mW : ℕ) (rawW 
           (other-rows c (length K) (rowsAfter (length K) R) mW (length rawW) (and-r a b ok) few) upper in
           record {
             fit = record {
-              below = record {
-                forms = record { lower = low; upper = up };
-                rising = not-false _ rising;
-                lower = omega (arith, ltb-false (fitPlace K R) (length R) lower-fit, layer-length c mR rawR);
-                mid = refl;
-              };
+              forms = record { lower = low; upper = up };
+              rising = not-false _ rising;
+              lower = omega (arith, ltb-false (fitPlace K R) (length R) lower-fit, layer-length c mR rawR);
               upper = omega (
                 arith,
                 ltb-false (fitPlace (keysAfter K R) W) (length W) upper-fit,

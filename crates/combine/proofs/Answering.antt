@@ -7,8 +7,7 @@ use mathlib.Core.List.{List, [], _∷_, _++_}
 use Prim.Native.Nat.{ℕ, _+_, _*_, _≤_, _<_}
 use native.Mathlib.Nat.{zero-add}
 use native.Mathlib.Omega.{arith}
-use lib.ListN.{length, take, drop}
-use lib.Seq.{take-append-seam}
+use lib.ListN.{length}
 use lib.Dec.{leb}
 use borrow.Author.Tests.{lt-ltb, le-ltb, le-leb}
 use Rattle.order.specs.Lists.{ascending}
@@ -19,7 +18,7 @@ use Rattle.model.specs.declared.Answer.{Answer}
 use Rattle.model.specs.declared.Answer.the-variants.{Done, Refused}
 use Rattle.model.specs.Limits.{mostColumns, mostEntries, mostRows}
 use Rattle.model.specs.Layer.{Layer, rowsAfter}
-use Rattle.model.specs.Raw.{entriesOf, entriesAt, editOf, layerOf}
+use Rattle.model.specs.Raw.{entriesOf, editOf, layerOf}
 use Rattle.model.specs.Form.{argsOk, zeros, sound, follows, formPlace}
 use Rattle.model.specs.Fit.{fitPlace}
 use Rattle.model.specs.Read.{keysAfter}
@@ -41,10 +40,7 @@ use Rattle.model.proofs.Raw.{layer-length, entries-length, args-held}
 use Rattle.form.specs.InForm.{InForm}
 use Rattle.form.proofs.Accepted.{Accepted, accepted, in-form}
 use Rattle.form.proofs.Answers.{raised, onward, after-form, form-row}
-use Rattle.read.specs.Runs.{Readable}
-use Rattle.read.proofs.Ready.{ready}
-use Rattle.read.proofs.Same.{bare}
-use Rattle.combine.specs.Rows.{joinAnswer, upperAnswer, fitsAnswer, Forms}
+use Rattle.combine.specs.Rows.{joinAnswer, fitsAnswer, Forms}
 
 -- the arguments pass over other rows too
 pub other-rows : (c n k m len : ℕ) → argsOk c n m len ≡ true → k ≤ 4096 → argsOk c k m len ≡ true
@@ -78,33 +74,11 @@ place-upto c n m xs y ok e =
         omega (arith, ap (λ (t : Refusal). t .place) q)
     go false z l = absurd (let o : _≡_ {A = ℕ} 0 1 = cc in omega arith)
 
--- the keys after the lower layer can be read, and stand at the front of the buffer
-pub can-read : {c : ℕ} {K : List ℕ} {mR : ℕ} {rawR : List ℕ} {mW : ℕ} {rawW : List ℕ} → Forms c K mR rawR mW rawW
-    → Readable c mR rawR K 0 4096
-can-read {c} {K} {mR} {rawR} f =
-    let R = layerOf c mR rawR in
-    let a = accepted c (length K) mR rawR (rowsAfter (length K) R) (f .lower) in
-    record {
-      held = a .held;
-      column = a .held .some;
-      ready = ready c (length K) 0 R (a .each) (a .pairs);
-      room = a .few;
-    }
-
 pub upper-few : {c : ℕ} {K : List ℕ} {mR : ℕ} {rawR : List ℕ} {mW : ℕ} {rawW : List ℕ} → Forms c K mR rawR mW rawW
     → mW ≤ 512
 upper-few {c} {K} {mR} {rawR} {mW} {rawW} f =
     let n = rowsAfter (length K) (layerOf c mR rawR) in
     accepted c n mW rawW (rowsAfter n (layerOf c mW rawW)) (f .upper) .held .entries
-
--- an empty lower layer leaves the base's own keys
-pub empty-lower : (c m : ℕ) (K rawR : List ℕ) → m ≡ 0 → K ≡ keysAfter K (layerOf c m rawR)
-unfolding layerOf entriesAt
-empty-lower c m K rawR e = sym (ap (λ (k : ℕ). keysAfter K (layerOf c k rawR)) e ∙ bare 0 0 K)
-
-pub mid-keys : (shown old new : List ℕ) (rows : ℕ) → rows ≡ length shown → new ≡ shown ++ drop (length shown) old
-    → take rows new ≡ shown
-mid-keys shown old new rows r e = rw (r, e) (take-append-seam shown (drop (length shown) old))
 
 module _ (c : ℕ) (K : List ℕ) (mR : ℕ) (rawR : List ℕ) (mW : ℕ) (rawW : List ℕ) (len : ℕ) where
   abbrev R : Layer
@@ -126,25 +100,25 @@ module _ (c : ℕ) (K : List ℕ) (mR : ℕ) (rawR : List ℕ) (mW : ℕ) (rawW 
     unfolding fitsAnswer
     lower-refused p e l = rw (h, layer-length c mR rawR, ← e, lt-ltb p mR l, zero-add)
 
-    pub upper-answer : mR ≤ fitPlace K R → upperAnswer c K mR rawR mW rawW len ≡ fitsAnswer c K mR rawR mW rawW len
-    unfolding fitsAnswer upperAnswer
-    upper-answer l = rw (h, layer-length c mR rawR, le-ltb (fitPlace K R) mR l)
+    module _ (l : mR ≤ fitPlace K R) where
+      pub upper-refused : (p : ℕ) → p ≡ fitPlace (keysAfter K R) W → p < mW
+          → Refused (refusal 4 (1000 + p)) ≡ fitsAnswer c K mR rawR mW rawW len
+      unfolding fitsAnswer
+      upper-refused p e u =
+          rw (h, layer-length c mR rawR, le-ltb (fitPlace K R) mR l, layer-length c mW rawW, ← e, lt-ltb p mW u)
 
-  -- refusal 4 of the upper layer, and what is left of the table
-  module _ (N : List ℕ) (n : N ≡ keysAfter K R) where
-    pub upper-refused : (p : ℕ) → p ≡ fitPlace N W → p < mW
-        → Refused (refusal 4 (1000 + p)) ≡ upperAnswer c K mR rawR mW rawW len
-    unfolding upperAnswer
-    upper-refused p e u =
-        let q : p ≡ fitPlace (keysAfter K R) W = e ∙ ap (λ (L : List ℕ). fitPlace L W) n in
-        rw (layer-length c mW rawW, ← q, lt-ltb p mW u)
-
-    pub join-answer : mW ≤ fitPlace N W
-        → joinAnswer c K mR rawR mW rawW len ≡ upperAnswer c K mR rawR mW rawW len
-    unfolding upperAnswer joinAnswer
-    join-answer u =
-        let q : mW ≤ fitPlace (keysAfter K R) W = subst (λ (L : List ℕ). mW ≤ fitPlace L W) n u in
-        rw (layer-length c mW rawW, le-ltb (fitPlace (keysAfter K R) W) mW q)
+      pub join-answer : mW ≤ fitPlace (keysAfter K R) W
+          → joinAnswer c K mR rawR mW rawW len ≡ fitsAnswer c K mR rawR mW rawW len
+      unfolding fitsAnswer joinAnswer
+      join-answer u =
+          rw (
+            h,
+            layer-length c mR rawR,
+            le-ltb (fitPlace K R) mR l,
+            layer-length c mW rawW,
+            le-ltb
+                (fitPlace (keysAfter K R) W) mW u,
+          )
 
   -- refusal 1
   pub args-refused : argsOk c (length K) mR (length rawR) && argsOk c (length K) mW (length rawW) ≡ false

@@ -21,7 +21,7 @@ use Rattle.model.specs.Meaning.{keyOf}
 use Rattle.model.proofs.Cell.{put-length}
 use Rattle.form.proofs.Flat.{entry-numbers}
 use Rattle.combine.specs.declared.weave.Step.the-variants.{Lower, Upper, UpperHere, Drop, Vanish, Patch}
-use Rattle.combine.specs.Woven.{deed, meet, meetKinds, stepOf, placed, changesAhead, patched}
+use Rattle.combine.specs.Woven.{deed, meet, meetKinds, stepBy, placed, changesAhead, patched}
 
 -- the kinds say what the deeds do
 pub meet-kinds : (d q : ℕ) (vs us : List ℕ) → meetKinds d q ≡ meet (deedOf d vs) (deedOf q us)
@@ -45,15 +45,15 @@ meet-kinds d q vs us = go (eqb q ADD) (eqb d ADD) (eqb q STRIKE) (eqb d STRIKE) 
     go false false false false false e false f = rw (e, f)
 
 -- the keys are compared first
-module _ (K N : List ℕ) (e f : Edit) (a b : ℕ) (ha : a ≡ keyOf K e) (hb : b ≡ keyOf N f) where
-  pub step-lower : a < b → Lower ≡ stepOf K N e f
-  step-lower h = rw (lt-ltb (keyOf K e) (keyOf N f) (omega arith))
+module _ (K : List ℕ) (e f : Edit) (a b : ℕ) (ha : a ≡ keyOf K e) where
+  pub step-lower : a < b → Lower ≡ stepBy (keyOf K e) b e f
+  step-lower h = rw (lt-ltb (keyOf K e) b (omega arith))
 
-  pub step-upper : b ≤ a → b < a → Upper ≡ stepOf K N e f
-  step-upper l h = rw (le-ltb (keyOf K e) (keyOf N f) (omega arith), lt-ltb (keyOf N f) (keyOf K e) (omega arith))
+  pub step-upper : b ≤ a → b < a → Upper ≡ stepBy (keyOf K e) b e f
+  step-upper l h = rw (le-ltb (keyOf K e) b (omega arith), lt-ltb b (keyOf K e) (omega arith))
 
-  pub step-meet : b ≤ a → a ≤ b → meet (deed e) (deed f) ≡ stepOf K N e f
-  step-meet l h = rw (le-ltb (keyOf K e) (keyOf N f) (omega arith), le-ltb (keyOf N f) (keyOf K e) (omega arith))
+  pub step-meet : b ≤ a → a ≤ b → meet (deed e) (deed f) ≡ stepBy (keyOf K e) b e f
+  step-meet l h = rw (le-ltb (keyOf K e) b (omega arith), le-ltb b (keyOf K e) (omega arith))
 
 -- the entry adds or strikes, and so has its key itself
 abbrev pub named : ℕ → Bool

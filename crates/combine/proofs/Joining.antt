@@ -1,7 +1,7 @@
 -- Two layers that fit are joined: what the walk needs, that it leaves the combination, and what the join answers and
 -- writes.
 -- Assumes nothing.
-use mathlib.Core.Path.{_≡_, sym, ap, subst, _∙_}
+use mathlib.Core.Path.{_≡_, refl, sym, ap, subst, _∙_}
 use mathlib.Core.Bool.{true, false}
 use mathlib.Core.List.{List, [], _++_}
 use Prim.Native.Nat.{ℕ, _+_, _*_, _/_, _≤_}
@@ -26,7 +26,7 @@ use Rattle.read.proofs.Ready.{ready}
 use Rattle.read.proofs.Rows.{rows-shown}
 use Rattle.write.proofs.Layers.{sound-wide, flat-length}
 use Rattle.combine.specs.Woven.{wovenLayer}
-use Rattle.combine.specs.Walk.{Both, Woven}
+use Rattle.combine.specs.Walk.{Named, Both, Woven}
 use Rattle.combine.specs.Rows.{joinAnswer, Forms, Fits}
 use Rattle.combine.proofs.Combined.{Combines, combines}
 
@@ -58,37 +58,42 @@ pub upper-form : {c : ℕ} {K : List ℕ} {mR : ℕ} {rawR : List ℕ} {mW : ℕ
 upper-form {c} {K} {mR} {rawR} {mW} {rawW} f N e =
     subst (λ (n : ℕ). formAnswer c n mW rawW ≡ Done (rowsAfter n (layerOf c mW rawW))) (mid-rows f N e) (f .upper)
 
-module _ {c : ℕ} {K N : List ℕ} {mR : ℕ} {rawR : List ℕ} {mW : ℕ} {rawW : List ℕ} (f : Fits c K N mR rawR mW rawW) where
+module _ {c : ℕ} {K : List ℕ} {mR : ℕ} {rawR : List ℕ} {mW : ℕ} {rawW : List ℕ} (f : Fits c K mR rawR mW rawW) where
   abbrev R : Layer
   R = layerOf c mR rawR
 
   abbrev W : Layer
   W = layerOf c mW rawW
 
+  abbrev N : List ℕ
+  N = keysAfter K R
+
   abbrev M : Layer
   M = combine K R W
 
   pub low : Accepted c (length K) mR rawR (rowsAfter (length K) R)
-  low = accepted c (length K) mR rawR (rowsAfter (length K) R) (f .below .forms .lower)
+  low = accepted c (length K) mR rawR (rowsAfter (length K) R) (f .forms .lower)
 
   pub up : Accepted c (rowsAfter (length K) R) mW rawW (rowsAfter (rowsAfter (length K) R) W)
-  up = accepted c (rowsAfter (length K) R) mW rawW (rowsAfter (rowsAfter (length K) R) W) (f .below .forms .upper)
+  up = accepted c (rowsAfter (length K) R) mW rawW (rowsAfter (rowsAfter (length K) R) W) (f .forms .upper)
 
   pub columns : c ≤ 8
   columns = low .held .columns
 
-  pub both : Both c K N mR rawR mW rawW
-  both = record {
-    lower = f .below .forms .lower ∙ ap Done (mid-rows (f .below .forms) N (f .below .mid));
-    upper = upper-form (f .below .forms) N (f .below .mid);
+  pub both : (names : List ℕ) → Named c N mW rawW names → mW ≤ length names → Both c K N mR rawR mW rawW names
+  both names h l = record {
+    lower = f .forms .lower ∙ ap Done (mid-rows (f .forms) N refl);
+    upper = upper-form (f .forms) N refl;
+    named = h;
+    room = l;
   }
 
   pub joins : Combines c K R W
-  joins = combines c K R W (f .below .rising) (low .ordered) (fits-of K R mR (low .size) (f .below .lower)) (up .ordered)
-      (subst (λ (L : List ℕ). fits L W ≡ true) (f .below .mid) (fits-of N W mW (up .size) (f .upper)))
+  joins = combines c K R W (f .rising) (low .ordered) (fits-of K R mR (low .size) (f .lower)) (up .ordered)
+      (fits-of N W mW (up .size) (f .upper))
 
   same : wovenLayer K N R W ≡ M
-  same = ap (λ (L : List ℕ). wovenLayer K L R W) (f .below .mid) ∙ joins .same
+  same = joins .same
 
   pub flat-size : length (flat c M) ≡ length M * (c + 2)
   flat-size = flat-length c M (λ e m. sound-wide c (length K) (low .held .some) e (joins .each e m))

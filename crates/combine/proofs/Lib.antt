@@ -7,8 +7,10 @@ pub mod Buffer
 pub mod Patching
 pub mod Placing
 pub mod Left
+pub mod Shown
 pub mod Walking
 pub mod Writing
+pub mod Overlooking
 pub mod Tallying
 pub mod Finishing
 pub mod Joining

@@ -72,16 +72,16 @@ module _ (c : ℕ) (T : Table) (mR : ℕ) (rawR : List ℕ) (mW : ℕ) (rawW out
   A : Accepts c K mR rawR mW rawW (length out) m
   A = accepts c K mR rawR mW rawW (length out) m (sym (o .0) ∙ done)
 
-  F : Fits c K (keysAfter K R) mR rawR mW rawW
+  F : Fits c K mR rawR mW rawW
   F = A .fit
 
   asc : AscFrom key 0 T
-  asc = asc-of key T (F .below .rising)
+  asc = asc-of key T (F .rising)
 
   lower-good : Good c T R
   lower-good =
       good-of c T R asc (subst (λ (n : ℕ). inOrder c n R ≡ true) (keys-length T) (low F .ordered))
-      (fits-of K R mR (low F .size) (F .below .lower))
+      (fits-of K R mR (low F .size) (F .lower))
 
   over-good : Good c (read T R) W
   over-good =
@@ -121,7 +121,7 @@ module _ (c : ℕ) (T : Table) (mR : ℕ) (rawR : List ℕ) (mW : ℕ) (rawW out
         (subst (AllPairs follows) (sym back)
         (pairs-weaker before follows M (λ x y p q h. before-follows x y h)
         (combine-good c T R W asc lower-good over-good .fit .sorted)))
-        (subst (λ (L : Layer). rowsAfter (length K) L ≤ 4096) (sym back) (rows-few F)) (F .below .rising)
+        (subst (λ (L : Layer). rowsAfter (length K) L ≤ 4096) (sym back) (rows-few F)) (F .rising)
         (subst (λ (L : Layer). fits K L ≡ true) (sym back) (combine-fits c T R W asc lower-good over-good));
     reads = ap (read T) back ∙ combine-reads c T R W asc lower-good over-good;
     behind =

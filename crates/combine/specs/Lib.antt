@@ -1,4 +1,5 @@
 pub mod Woven
 pub mod Walk
+pub mod Over
 pub mod Rows
 pub mod Promises

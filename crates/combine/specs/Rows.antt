@@ -21,15 +21,6 @@ joinAnswer c K mR rawR mW rawW len =
     let M = combinedLayer c K mR rawR mW rawW in
     firstMet Refused (noRoom c len M ∷ tooManyRows (rowsAfter (length K) M) ∷ []) (Done (length M))
 
--- the rows from refusal 4 of the upper layer on
-unfoldable pub upperAnswer : ℕ → List ℕ → ℕ → List ℕ → ℕ → List ℕ → ℕ → Answer
-upperAnswer c K mR rawR mW rawW len =
-    let R = layerOf c mR rawR in
-    let W = layerOf c mW rawW in
-    let M = combinedLayer c K mR rawR mW rawW in
-    firstMet Refused (badFit 1000 (keysAfter K R) W ∷ noRoom c len M ∷ tooManyRows (rowsAfter (length K) M) ∷ [])
-    (Done (length M))
-
 -- the rows from refusal 3 on
 unfoldable pub fitsAnswer : ℕ → List ℕ → ℕ → List ℕ → ℕ → List ℕ → ℕ → Answer
 fitsAnswer c K mR rawR mW rawW len =
@@ -48,14 +39,9 @@ pub record Forms (c : ℕ) (K : List ℕ) (mR : ℕ) (rawR : List ℕ) (mW : ℕ
   pub lower : InForm c (length K) mR rawR
   pub upper : InForm c (rowsAfter (length K) (layerOf c mR rawR)) mW rawW
 
--- the lower one fits, and N are the keys that it leaves
-pub record LowerFits (c : ℕ) (K N : List ℕ) (mR : ℕ) (rawR : List ℕ) (mW : ℕ) (rawW : List ℕ) : Type 0 where
+-- the keys ascend and both fit, the upper one to the keys that the lower leaves
+pub record Fits (c : ℕ) (K : List ℕ) (mR : ℕ) (rawR : List ℕ) (mW : ℕ) (rawW : List ℕ) : Type 0 where
   pub forms : Forms c K mR rawR mW rawW
   pub rising : ascending K ≡ true
   pub lower : mR ≤ fitPlace K (layerOf c mR rawR)
-  pub mid : N ≡ keysAfter K (layerOf c mR rawR)
-
--- and the upper one fits those
-pub record Fits (c : ℕ) (K N : List ℕ) (mR : ℕ) (rawR : List ℕ) (mW : ℕ) (rawW : List ℕ) : Type 0 where
-  pub below : LowerFits c K N mR rawR mW rawW
-  pub upper : mW ≤ fitPlace N (layerOf c mW rawW)
+  pub upper : mW ≤ fitPlace (keysAfter K (layerOf c mR rawR)) (layerOf c mW rawW)

@@ -3,13 +3,14 @@ use mathlib.Core.Path.{_≡_}
 use mathlib.Core.Bool.{true}
 use mathlib.Core.List.{List, _++_, map, List·Memᴰ as Mem}
 use Prim.Native.Nat.{ℕ, _+_, _*_, _-_, _≤_, _<_}
-use lib.ListN.{length, take, drop}
+use lib.ListN.{length, getD, take, drop}
 use Rattle.model.specs.Cell.{CellEdit}
 use Rattle.model.specs.Layer.{change, at, Layer, rowsAfter}
 use Rattle.model.specs.Form.{sound, zeros}
 use Rattle.model.specs.Raw.{Held, entryAt, entriesAt, editOf, layerOf, flat}
 use Rattle.model.specs.declared.Entry.{Entry}
 use Rattle.model.specs.declared.Answer.the-variants.{Done}
+use Rattle.model.specs.Meaning.{keyOf}
 use Rattle.model.specs.Calls.{formAnswer}
 
 -- the numbers ys stand from o on, and all else is as it was
@@ -24,6 +25,10 @@ pub record Sound (c from : ℕ) (xs : List ℕ) (n : ℕ) : Type 0 where
   pub some : 1 ≤ c
   pub rows : n ≤ 4096
   pub alone : sound c n (editOf (entryAt c from xs)) ≡ true
+
+-- the keys that the first q entries of a slice concern, over the key column N
+abbrev pub Named : ℕ → List ℕ → ℕ → List ℕ → List ℕ → Type 0
+Named c N q W names = (j : ℕ) → j < q → getD names j 0 ≡ keyOf N (editOf (entryAt c (j * (c + 2)) W))
 
 -- m entries of a slice whose changes are of a column of the row
 pub record Run (c m from : ℕ) (xs : List ℕ) (width : ℕ) : Type 0 where
@@ -40,10 +45,12 @@ pub record Uppers (c m from : ℕ) (xs : List ℕ) (strikes o len : ℕ) : Type 
   pub zeroed : (e : Entry) → Mem e (entriesAt c m from xs) → zeros e ≡ true
   pub below : (e : Entry) → Mem e (entriesAt c m from xs) → e .pos ≤ 4096
 
--- both layers are in form, the upper over as many rows as the lower leaves
-pub record Both (c : ℕ) (K N : List ℕ) (mR : ℕ) (R : List ℕ) (mW : ℕ) (W : List ℕ) : Type 0 where
+-- both layers are in form, the upper over the keys N that the lower leaves, and its entries concern these keys
+pub record Both (c : ℕ) (K N : List ℕ) (mR : ℕ) (R : List ℕ) (mW : ℕ) (W names : List ℕ) : Type 0 where
   pub lower : formAnswer c (length K) mR R ≡ Done (length N)
   pub upper : formAnswer c (length N) mW W ≡ Done (rowsAfter (length N) (layerOf c mW W))
+  pub named : Named c N mW W names
+  pub room : mW ≤ length names
 
 -- the entries of a slice from number i on, and the same as edits
 abbrev pub entriesLeft : ℕ → ℕ → ℕ → List ℕ → List Entry

@@ -37,10 +37,12 @@ meetKinds d q =
     (cond (eqb d ADD) (cond (eqb q STRIKE) Vanish Patch)
     (cond (eqb q STRIKE || (eqb d STRIKE || eqb d q)) Drop (cond (ltb d q) Lower UpperHere)))
 
--- the lower key goes first
+-- the lower key goes first: by the keys a and b that both edits concern, and by the key columns
+abbrev pub stepBy : ℕ → ℕ → Edit → Edit → Step
+stepBy a b e f = cond (ltb a b) Lower (cond (ltb b a) Upper (meet (deed e) (deed f)))
+
 abbrev pub stepOf : List ℕ → List ℕ → Edit → Edit → Step
-stepOf K N e f =
-    cond (ltb (keyOf K e) (keyOf N f)) Lower (cond (ltb (keyOf N f) (keyOf K e)) Upper (meet (deed e) (deed f)))
+stepOf K N e f = stepBy (keyOf K e) (keyOf N f) e f
 
 -- an edit at another position; an edit of the upper layer once the lower's adds and strikes before it are counted out
 abbrev pub placed : ℕ → Edit → Edit

@@ -1,4 +1,5 @@
 // Two layers into one: a walk along both by key, straight into the third slice once it is known that there is room.
+mod over;
 mod tally;
 mod weave;
 
@@ -10,9 +11,12 @@ ghost use Prim.Native.Nat.{_≤_};
 ghost use lib.ListN.{length};
 ghost use Rattle.model.specs.declared.Answer.the-variants.{Refused};
 ghost use Rattle.model.specs.Refusals.{refusal};
-ghost use Rattle.model.specs.Raw.{flat, room};
+ghost use Rattle.model.specs.Layer.{rowsAfter};
+ghost use Rattle.model.specs.Raw.{layerOf, flat, room};
 ghost use Rattle.model.specs.Calls.{combineAnswer, combinedLayer, written};
-ghost use Rattle.combine.specs.Rows.{joinAnswer, upperAnswer, fitsAnswer, Forms, LowerFits, Fits};
+ghost use Rattle.combine.specs.Over.{over};
+ghost use Rattle.combine.specs.Walk.{Named};
+ghost use Rattle.combine.specs.Rows.{joinAnswer, fitsAnswer, Forms, Fits};
 
 // The room of a slice of len numbers: the smaller of 512 and the whole entries that it can hold.
 fn room_of(c: usize, len: usize) -> usize
@@ -33,65 +37,44 @@ fn refused(number: u64, place: usize) -> Answer
     Answer::Refused(Refusal { number, place })
 }
 
-// Joins two layers that fit in the third slice, where there is room for the result.
+// Joins two layers that fit in the third slice, where there is room for the result. The upper layer's entries concern the
+// keys `names`.
 fn join(
     c: usize,
     keys: &[u64],
-    mid: &[u64],
+    names: &[u64],
     mr: usize,
     r: &[u64],
     mw: usize,
     w: &[u64],
     out: &mut [u64],
 ) -> Answer
-    requires { ⌜ Fits c (now keys) (now mid) mr (now r) mw (now w) ⌝ }
+    requires { ⌜ Fits c (now keys) mr (now r) mw (now w)
+        × Named c (over c (now keys) mr (now r)) mw (now w) (now names) × (mw ≤ length (now names)) ⌝ }
     ensures { λ a. ⌜ (a ≡ joinAnswer c (now (keys .entry)) mr (now (r .entry)) mw (now (w .entry))
         (length (now (out .entry))))
         × (now (out .exit) ≡ written a (flat c (combinedLayer c (now (keys .entry)) mr (now (r .entry)) mw (now (w .entry))))
         (now (out .entry))) ⌝ }
 {
     let room = room_of(c, out.len());
-    if tally::more_than(room, c, keys, mid, mr, r, mw, w) {
+    if tally::more_than(room, c, keys, names, mr, r, mw, w) {
         return refused(9, 0);
     }
-    Answer::Done(weave::weave(c, keys, mid, mr, r, mw, w, out))
+    Answer::Done(weave::weave(c, keys, names, mr, r, mw, w, out))
 }
 
-// Joins two layers where the upper one fits the keys that the lower leaves.
-fn fit_upper(
-    c: usize,
-    keys: &[u64],
-    mid: &[u64],
-    mr: usize,
-    r: &[u64],
-    mw: usize,
-    w: &[u64],
-    out: &mut [u64],
-) -> Answer
-    requires { ⌜ LowerFits c (now keys) (now mid) mr (now r) mw (now w) ⌝ }
-    ensures { λ a. ⌜ (a ≡ upperAnswer c (now (keys .entry)) mr (now (r .entry)) mw (now (w .entry))
-        (length (now (out .entry))))
-        × (now (out .exit) ≡ written a (flat c (combinedLayer c (now (keys .entry)) mr (now (r .entry)) mw (now (w .entry))))
-        (now (out .entry))) ⌝ }
-{
-    let q = form::fit_place(c, mw, w, mid);
-    if q < mw {
-        return refused(4, 1000 + q);
-    }
-    join(c, keys, mid, mr, r, mw, w, out)
-}
-
-// Joins two layers in form where the keys ascend and both fit. An empty lower layer leaves the base's own keys.
+// Joins two layers in form where the keys ascend and both fit, the upper one to the keys of the rows that the lower leaves.
 fn fit_both(
     c: usize,
     keys: &[u64],
     mr: usize,
     r: &[u64],
+    rows: usize,
     mw: usize,
     w: &[u64],
     out: &mut [u64],
 ) -> Answer
-    requires { ⌜ Forms c (now keys) mr (now r) mw (now w) ⌝ }
+    requires { ⌜ Forms c (now keys) mr (now r) mw (now w) × (rows ≡ rowsAfter (length (now keys)) (layerOf c mr (now r))) ⌝ }
     ensures { λ a. ⌜ (a ≡ fitsAnswer c (now (keys .entry)) mr (now (r .entry)) mw (now (w .entry))
         (length (now (out .entry))))
         × (now (out .exit) ≡ written a (flat c (combinedLayer c (now (keys .entry)) mr (now (r .entry)) mw (now (w .entry))))
@@ -104,12 +87,12 @@ fn fit_both(
     if p < mr {
         return refused(4, p);
     }
-    if mr == 0 {
-        return fit_upper(c, keys, keys, mr, r, mw, w, out);
+    let mut names: [u64; 512] = [0; 512];
+    let q = over::fit_over(c, keys, mr, r, rows, mw, w, &mut names);
+    if q < mw {
+        return refused(4, 1000 + q);
     }
-    let mut mid: [u64; 4096] = [0; 4096];
-    let rows = read::read_part(c, mr, r, keys, 0, &mut mid);
-    fit_upper(c, keys, &mid[..rows], mr, r, mw, w, out)
+    join(c, keys, &names, mr, r, mw, w, out)
 }
 
 // Combines the lower layer R over the base keys and the upper layer W over what R shows into one layer over the base,
@@ -136,7 +119,7 @@ pub fn combine(
         Answer::Refused(x) => Answer::Refused(x),
         Answer::Done(rows) => match form::check(c, rows, mw, w) {
             Answer::Refused(y) => refused(y.number, 1000 + y.place),
-            Answer::Done(_) => fit_both(c, keys, mr, r, mw, w, out),
+            Answer::Done(_) => fit_both(c, keys, mr, r, rows, mw, w, out),
         },
     }
 }

@@ -9,6 +9,7 @@ ghost use lib.Dec.{ltb};
 ghost use lib.ListN.{length};
 ghost use Rattle.model.specs.Raw.{entriesAt, editOf, layerOf};
 ghost use Rattle.combine.specs.Woven.{changesAhead, wovenLayer};
+ghost use Rattle.combine.specs.Over.{over};
 ghost use Rattle.combine.specs.Walk.{Both};
 
 // How many changes at p the m entries from `from` begin with.
@@ -30,9 +31,9 @@ fn changes_ahead(c: usize, p: u64, m: usize, from: usize, w: &[u64]) -> usize
 }
 
 // How many entries both layers make together.
-fn count(c: usize, keys: &[u64], mid: &[u64], mr: usize, r: &[u64], mw: usize, w: &[u64]) -> usize
-    requires { ⌜ Both c (now keys) (now mid) mr (now r) mw (now w) ⌝ }
-    ensures { λ m. ⌜ m ≡ length (wovenLayer (now (keys .entry)) (now (mid .entry)) (layerOf c mr (now (r .entry)))
+fn count(c: usize, keys: &[u64], names: &[u64], mr: usize, r: &[u64], mw: usize, w: &[u64]) -> usize
+    requires { ⌜ Both c (now keys) (over c (now keys) mr (now r)) mr (now r) mw (now w) (now names) ⌝ }
+    ensures { λ m. ⌜ m ≡ length (wovenLayer (now (keys .entry)) (over c (now (keys .entry)) mr (now (r .entry))) (layerOf c mr (now (r .entry)))
         (layerOf c mw (now (w .entry)))) ⌝ }
 {
     let wide = c + 2;
@@ -42,7 +43,7 @@ fn count(c: usize, keys: &[u64], mid: &[u64], mr: usize, r: &[u64], mw: usize, w
     while (i < mr) & (j < mw) {
         let at = i * wide;
         let bt = j * wide;
-        match weave::next_step(c, at, r, keys, bt, w, mid) {
+        match weave::next_step(c, at, r, keys, bt, w, j, names) {
             Step::Lower => {
                 i += 1;
                 m += 1;
@@ -77,18 +78,18 @@ pub fn more_than(
     room: usize,
     c: usize,
     keys: &[u64],
-    mid: &[u64],
+    names: &[u64],
     mr: usize,
     r: &[u64],
     mw: usize,
     w: &[u64],
 ) -> bool
-    requires { ⌜ Both c (now keys) (now mid) mr (now r) mw (now w) ⌝ }
-    ensures { λ b. ⌜ b ≡ ltb room (length (wovenLayer (now (keys .entry)) (now (mid .entry)) (layerOf c mr (now (r .entry)))
+    requires { ⌜ Both c (now keys) (over c (now keys) mr (now r)) mr (now r) mw (now w) (now names) ⌝ }
+    ensures { λ b. ⌜ b ≡ ltb room (length (wovenLayer (now (keys .entry)) (over c (now (keys .entry)) mr (now (r .entry))) (layerOf c mr (now (r .entry)))
         (layerOf c mw (now (w .entry))))) ⌝ }
 {
     if mr + mw <= room {
         return false;
     }
-    room < count(c, keys, mid, mr, r, mw, w)
+    room < count(c, keys, names, mr, r, mw, w)
 }

@@ -3,11 +3,12 @@ use model::Entry;
 ghost use mathlib.Core.Path.{_≡_};
 ghost use mathlib.Core.List.{_∷_, _++_, map};
 ghost use Prim.Native.Nat.{_+_, _*_, _-_, _≤_, _<_};
-ghost use lib.ListN.{length};
+ghost use lib.ListN.{length, getD};
 ghost use Rattle.order.specs.Lists.{one};
 ghost use Rattle.model.specs.Raw.{flat, entryAt, entriesAt, editOf, layerOf};
 ghost use Rattle.model.specs.Meaning.{keyOf};
-ghost use Rattle.combine.specs.Woven.{meetKinds, stepOf, rebased, changesAhead, patched, wovenLayer};
+ghost use Rattle.combine.specs.Woven.{meetKinds, stepBy, rebased, changesAhead, patched, wovenLayer};
+ghost use Rattle.combine.specs.Over.{over};
 ghost use Rattle.combine.specs.Walk.{Put, Sound, Run, Uppers, lefts, Rest, Both, Woven};
 
 // What the next edits of both layers make of each other.
@@ -58,7 +59,8 @@ fn key_at(c: usize, at: usize, layer: &[u64], keys: &[u64]) -> u64
     keys[s]
 }
 
-// The next step, for the lower layer's entry from `at` and the upper's from `bt`.
+// The next step, for the lower layer's entry from `at` and the upper's from `bt`, which is number j and concerns the key
+// of that number.
 pub fn next_step(
     c: usize,
     at: usize,
@@ -66,14 +68,15 @@ pub fn next_step(
     keys: &[u64],
     bt: usize,
     w: &[u64],
-    mid: &[u64],
+    j: usize,
+    names: &[u64],
 ) -> Step
-    requires { ⌜ Sound c at (now r) (length (now keys)) × Sound c bt (now w) (length (now mid)) ⌝ }
-    ensures { λ s. ⌜ s ≡ stepOf (now (keys .entry)) (now (mid .entry)) (editOf (entryAt c at (now (r .entry))))
-        (editOf (entryAt c bt (now (w .entry)))) ⌝ }
+    requires { ⌜ Sound c at (now r) (length (now keys)) × (bt + (c + 2) ≤ length (now w)) × (j < length (now names)) ⌝ }
+    ensures { λ s. ⌜ s ≡ stepBy (keyOf (now (keys .entry)) (editOf (entryAt c at (now (r .entry)))))
+        (getD (now (names .entry)) j 0) (editOf (entryAt c at (now (r .entry)))) (editOf (entryAt c bt (now (w .entry)))) ⌝ }
 {
     let lower = key_at(c, at, r, keys);
-    let upper = key_at(c, bt, w, mid);
+    let upper = names[j];
     if lower < upper {
         return Step::Lower;
     }
@@ -216,18 +219,18 @@ fn one_if(b: bool) -> u64
 pub fn weave(
     c: usize,
     keys: &[u64],
-    mid: &[u64],
+    names: &[u64],
     mr: usize,
     r: &[u64],
     mw: usize,
     w: &[u64],
     out: &mut [u64],
 ) -> usize
-    requires { ⌜ Both c (now keys) (now mid) mr (now r) mw (now w)
-        × (length (wovenLayer (now keys) (now mid) (layerOf c mr (now r)) (layerOf c mw (now w))) * (c + 2)
+    requires { ⌜ Both c (now keys) (over c (now keys) mr (now r)) mr (now r) mw (now w) (now names)
+        × (length (wovenLayer (now keys) (over c (now keys) mr (now r)) (layerOf c mr (now r)) (layerOf c mw (now w))) * (c + 2)
         ≤ length (now out)) ⌝ }
-    ensures { λ m. ⌜ Woven c (wovenLayer (now (keys .entry)) (now (mid .entry)) (layerOf c mr (now (r .entry)))
-        (layerOf c mw (now (w .entry)))) m (now (out .entry)) (now (out .exit)) ⌝ }
+    ensures { λ m. ⌜ Woven c (wovenLayer (now (keys .entry)) (over c (now (keys .entry)) mr (now (r .entry)))
+        (layerOf c mr (now (r .entry))) (layerOf c mw (now (w .entry)))) m (now (out .entry)) (now (out .exit)) ⌝ }
 {
     let wide = c + 2;
     let mut i: usize = 0;
@@ -239,7 +242,7 @@ pub fn weave(
         let at = i * wide;
         let bt = j * wide;
         let o = m * wide;
-        match next_step(c, at, r, keys, bt, w, mid) {
+        match next_step(c, at, r, keys, bt, w, j, names) {
             Step::Lower => {
                 put_entry(c, r[at], at, r, out, o);
                 adds += one_if(r[at + 1] == Entry::ADD);

@@ -2,47 +2,84 @@
 -- Assumes nothing.
 use Prim.Native.Nat.{ℕ, zero, suc, _+_, _-_, _≤_, _<_}
 use native.Mathlib.Omega.{arith}
-use mathlib.Core.Path.{_≡_, refl, ap, _∙_}
-use mathlib.Core.Bool.{Bool, true, false, not, _&&_, _||_, or-false}
+use mathlib.Core.Path.{_≡_, refl, sym, ap, _∙_}
+use mathlib.Core.Bool.{Bool, true, false, not, _&&_, _||_, and-true, or-false}
 use mathlib.Core.List.{List, [], _∷_}
 use lib.ListN.{length, getD}
 use lib.Dec.{leb, ltb, eqb}
-use borrow.Author.Tests.{le-leb, lt-leb, le-ltb, eq-eqb, ne-eqb, leb-true, ltb-true}
+use borrow.Author.Tests.{le-leb, lt-leb, le-ltb, eq-eqb, ne-eqb, leb-true, leb-false, ltb-true}
 use Rattle.order.proofs.Tests.{and-l}
 use Rattle.model.specs.declared.Entry.{Entry}
 use Rattle.model.specs.Form.{sound}
 use Rattle.model.specs.Raw.{ADD, STRIKE, entryAt, entriesAt, editOf}
 use Rattle.model.specs.Fit.{above}
 use Rattle.model.proofs.Raw.{value-at, rest-step, rest-end}
-use Rattle.form.specs.Suit.{first, struckAhead, underAhead, suitsAhead, risesKind, fitFrom}
+use Rattle.form.specs.Suit.{first, struckAhead, underAhead, suitsAhead, risesKind, addFits, fitsAfter, fitFrom}
 
 -- K[s-1] < k
-pub above-last : (K : List ℕ) (s k : ℕ) → (s ≡ 0 → ⊥) → above K s k ≡ ltb (getD K (s - 1) 0) k
-above-last K zero k h = absurd (h refl)
-above-last K (suc s) k h =
+above-last : (K : List ℕ) (s k last : ℕ) → ((s ≡ 0 → ⊥) → last ≡ getD K (s - 1) 0)
+    → (eqb s 0 || ltb last k) ≡ above K s k
+above-last K zero k last h = refl
+above-last K (suc s) k last h =
+    let z : suc s ≡ 0 → ⊥ = λ w. omega arith in
     let e : suc s - 1 ≡ s = omega arith in
-    rw e
+    rw (ne-eqb (suc s) 0 z, h z, e)
 
 -- k < K[s], or k = K[s] where row s is struck ahead
-module _ (K : List ℕ) (es : List Entry) (s k : ℕ) where
-  pub under-past : length K ≤ s → underAhead K es s k ≡ true
-  unfolding underAhead
-  under-past h = rw (le-leb (length K) s h)
+under-next : (K : List ℕ) (es : List Entry) (s k next : ℕ) → (s < length K → next ≡ getD K s 0)
+    → (leb (length K) s || (ltb k next || (eqb k next && struckAhead s es))) ≡ underAhead K es s k
+unfolding underAhead
+under-next K es s k next h = go (leb (length K) s) refl
+  where
+    go : (t : Bool) → leb (length K) s ≡ t
+        → (leb (length K) s || (ltb k next || (eqb k next && struckAhead s es)))
+        ≡ (leb (length K) s || (ltb k (getD K s 0) || (eqb k (getD K s 0) && struckAhead s es)))
+    go true e = rw (e)
+    go false e = rw (h (leb-false (length K) s e))
 
-  pub under-other : s < length K → (k ≡ getD K s 0 → ⊥) → underAhead K es s k ≡ ltb k (getD K s 0)
-  unfolding underAhead
-  under-other h d = rw (lt-leb (length K) s h, ne-eqb k (getD K s 0) d, or-false)
+-- an add that fits by the keys around its position
+module _ (K : List ℕ) (e : Entry) (es : List Entry) (last next p q u : ℕ) where
+  pub add-fits : e .kind ≡ ADD → ((e .pos ≡ 0 → ⊥) → last ≡ getD K (e .pos - 1) 0)
+      → (e .pos < length K → next ≡ getD K (e .pos) 0)
+      → addFits (length K) last next p q u e es ≡ fitsAfter K p q u e es
+  unfolding addFits suitsAhead
+  add-fits k h l =
+      rw (
+        above-last K (e .pos) (first e) last h,
+        under-next K es (e .pos) (first e) next l,
+        k,
+      )
 
-  pub under-same : s < length K → k ≡ getD K s 0 → underAhead K es s k ≡ struckAhead s es
-  unfolding underAhead
-  under-same h e = rw (lt-leb (length K) s h, le-ltb k (getD K s 0) (omega arith), eq-eqb k (getD K s 0) e)
+-- what is left of the test once the position is past the last key, the key is another than that there, or it is that one
+module _ (n last next p q u : ℕ) (e : Entry) (es : List Entry) where
+  abbrev low : Bool
+  low = (eqb (e .pos) 0 || ltb last (first e)) && risesKind p q u (e .pos) ADD (first e)
+
+  swap : (a b r : Bool) → ((a && b) && r) ≡ ((a && r) && b)
+  swap true true true = refl
+  swap true true false = refl
+  swap true false true = refl
+  swap true false false = refl
+  swap false b r = refl
+
+  pub add-past : n ≤ e .pos → low ≡ addFits n last next p q u e es
+  unfolding addFits
+  add-past h = rw (le-leb n (e .pos) h) (sym (swap (eqb (e .pos) 0 || ltb last (first e)) true
+      (risesKind p q u (e .pos) ADD (first e)) ∙ and-true low))
+
+  pub add-other : e .pos < n → (first e ≡ next → ⊥) → low && ltb (first e) next ≡ addFits n last next p q u e es
+  unfolding addFits
+  add-other h d = rw (lt-leb n (e .pos) h, ne-eqb (first e) next d, or-false)
+      (sym (swap (eqb (e .pos) 0 || ltb last (first e)) (ltb (first e) next) (risesKind p q u (e .pos) ADD (first e))))
+
+  pub add-same : e .pos < n → first e ≡ next → low && struckAhead (e .pos) es ≡ addFits n last next p q u e es
+  unfolding addFits
+  add-same h d = rw (lt-leb n (e .pos) h, le-ltb (first e) next (omega arith), eq-eqb (first e) next d)
+      (sym (swap (eqb (e .pos) 0 || ltb last (first e)) (struckAhead (e .pos) es)
+      (risesKind p q u (e .pos) ADD (first e))))
 
 -- An entry alone, by its kind.
 module _ (K : List ℕ) (e : Entry) (es : List Entry) where
-  pub suits-add : e .kind ≡ ADD → suitsAhead K e es ≡ (above K (e .pos) (first e) && underAhead K es (e .pos) (first e))
-  unfolding suitsAhead
-  suits-add h = rw (eq-eqb (e .kind) ADD h)
-
   pub suits-strike : e .kind ≡ STRIKE → suitsAhead K e es ≡ eqb (getD K (e .pos) 0) (first e)
   unfolding suitsAhead
   suits-strike h = rw (h)

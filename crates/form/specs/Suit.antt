@@ -31,6 +31,14 @@ suitsAhead K e es =
 abbrev pub risesKind : ℕ → ℕ → ℕ → ℕ → ℕ → ℕ → Bool
 risesKind p q u s k v = not (eqb p s) || (not (eqb q ADD) || (not (eqb k ADD) || ltb u v))
 
+-- an add, the first of es, fits a key column of n keys, where `last` is the key before its position and `next` the one at it, after
+-- an entry at p of kind q and first value u
+unfoldable pub addFits : ℕ → ℕ → ℕ → ℕ → ℕ → ℕ → Entry → List Entry → Bool
+addFits n last next p q u e es =
+    (eqb (e .pos) 0 || ltb last (first e))
+    && (leb n (e .pos) || (ltb (first e) next || (eqb (first e) next && struckAhead (e .pos) es)))
+    && risesKind p q u (e .pos) ADD (first e)
+
 -- the entry e, the first of es, breaks no rule alone, nor after one at p of kind q and first value u
 abbrev pub fitsAfter : List ℕ → ℕ → ℕ → ℕ → Entry → List Entry → Bool
 fitsAfter K p q u e es = suitsAhead K e es && risesKind p q u (e .pos) (e .kind) (first e)

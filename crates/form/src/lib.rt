@@ -1,6 +1,6 @@
 // The form check and the fit check of a layer, each with the place of the least entry at fault.
 mod scan;
-mod suit;
+pub mod suit;
 
 use model::Answer;
 use model::MOST_COLUMNS;

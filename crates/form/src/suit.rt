@@ -3,11 +3,10 @@ use model::Entry;
 ghost use mathlib.Core.Path.{_≡_};
 ghost use mathlib.Core.Bool.{true};
 ghost use Prim.Native.Nat.{_+_, _*_, _-_, _≤_, _<_};
-ghost use lib.ListN.{length};
+ghost use lib.ListN.{length, getD};
 ghost use Rattle.model.specs.Raw.{ADD, entryAt, entriesAt, editOf};
 ghost use Rattle.model.specs.Form.{sound};
-ghost use Rattle.model.specs.Fit.{above};
-ghost use Rattle.form.specs.Suit.{struckAhead, underAhead, risesKind, fitsAfter};
+ghost use Rattle.form.specs.Suit.{struckAhead, risesKind, addFits, fitsAfter};
 
 // An add equal to the base key at s looks ahead: a strike stands among the entries at s from entry i on, at `from`.
 fn strike_ahead(c: usize, m: usize, i: usize, from: usize, s: u64, layer: &[u64]) -> bool
@@ -29,39 +28,25 @@ fn strike_ahead(c: usize, m: usize, i: usize, from: usize, s: u64, layer: &[u64]
     false
 }
 
-// K[s-1] < k, if s > 0.
-fn above_last(s: usize, k: u64, keys: &[u64]) -> bool
+// The key before position s, or 0.
+fn key_before(s: usize, keys: &[u64]) -> u64
     requires { ⌜ s ≤ length (now keys) ⌝ }
-    ensures { λ r. ⌜ r ≡ above (now (keys .entry)) s k ⌝ }
+    ensures { λ r. ⌜ ((s ≡ 0 → ⊥) → r ≡ getD (now (keys .entry)) (s - 1) 0) ⌝ }
 {
     if s == 0 {
-        return true;
+        return 0;
     }
-    keys[s - 1] < k
+    keys[s - 1]
 }
 
-// And, if s < n, k < K[s], or k = K[s] where row s is struck ahead.
-fn under_next(
-    c: usize,
-    m: usize,
-    i: usize,
-    at: usize,
-    s: usize,
-    k: u64,
-    layer: &[u64],
-    keys: &[u64],
-) -> bool
-    requires { ⌜ at + (m - i) * (c + 2) ≤ length (now layer) ⌝ }
-    ensures { λ r. ⌜ r ≡ underAhead (now (keys .entry)) (entriesAt c (m - i) at (now (layer .entry))) s k ⌝ }
+// The key at position s, or 0.
+fn key_there(s: usize, keys: &[u64]) -> u64
+    ensures { λ r. ⌜ (s < length (now (keys .entry)) → r ≡ getD (now (keys .entry)) s 0) ⌝ }
 {
     if keys.len() <= s {
-        return true;
+        return 0;
     }
-    let next = keys[s];
-    if k != next {
-        return k < next;
-    }
-    strike_ahead(c, m, i, at, s as u64, layer)
+    keys[s]
 }
 
 // An add at s with key v may stand after an entry at p of kind q and first value u.
@@ -69,6 +54,37 @@ fn rises(p: u64, q: u64, u: u64, s: u64, v: u64) -> bool
     ensures { λ r. ⌜ r ≡ risesKind p q u s ADD v ⌝ }
 {
     (p != s) | ((q != Entry::ADD) | (u < v))
+}
+
+// Entry i, an add that stands from `at`, fits a column of n keys, where `last` is the key before its position and `next`
+// the one at it, after an entry at p of kind q and first value u.
+pub fn add_fits(
+    c: usize,
+    m: usize,
+    i: usize,
+    at: usize,
+    layer: &[u64],
+    n: usize,
+    last: u64,
+    next: u64,
+    p: u64,
+    q: u64,
+    u: u64,
+) -> bool
+    requires { ⌜ (at + (m - i) * (c + 2) ≤ length (now layer)) × (at + (c + 2) ≤ length (now layer)) × (1 ≤ c) ⌝ }
+    ensures { λ r. ⌜ r ≡ addFits n last next p q u (entryAt c at (now (layer .entry)))
+        (entriesAt c (m - i) at (now (layer .entry))) ⌝ }
+{
+    let s = layer[at];
+    let v = layer[at + 2];
+    let low = ((s == 0) | (last < v)) & rises(p, q, u, s, v);
+    if n as u64 <= s {
+        return low;
+    }
+    if v != next {
+        return low & (v < next);
+    }
+    low & strike_ahead(c, m, i, at, s, layer)
 }
 
 // Entry i, which stands from `at`, breaks no rule of fit alone, nor after one at p of kind q and first value u.
@@ -92,8 +108,9 @@ pub fn fits_after(
     let k = layer[at + 1];
     let v = layer[at + 2];
     if k == Entry::ADD {
-        return (above_last(s, v, keys) & under_next(c, m, i, at, s, v, layer, keys))
-            & rises(p, q, u, s as u64, v);
+        let last = key_before(s, keys);
+        let next = key_there(s, keys);
+        return add_fits(c, m, i, at, layer, keys.len(), last, next, p, q, u);
     }
     if k == Entry::STRIKE {
         return keys[s] == v;

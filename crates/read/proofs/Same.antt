@@ -134,8 +134,7 @@ run-then j xs L s p ys h k l q =
     let r = run j xs L (p - s) s (subst (λ (t : ℕ). Later j t L) (sym e) l) (omega arith) in
     sym (r ∙ ap (λ (t : ℕ). slice s t xs ++ readColumnFrom j t (drop t xs) L) e ∙ ap (λ (zs : List ℕ). slice s p xs ++ zs) q)
 
--- an empty layer shows the column as it is
-pub bare : (j s : ℕ) (xs : List ℕ) → readColumnFrom j s xs [] ≡ xs
+bare : (j s : ℕ) (xs : List ℕ) → readColumnFrom j s xs [] ≡ xs
 bare j s [] = refl
 bare j s (x ∷ xs) = ap (λ (t : List ℕ). x ∷ t) (bare j (suc s) xs)
 

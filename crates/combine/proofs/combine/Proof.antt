@@ -13,6 +13,7 @@ use Rattle.model.specs.declared.Answer.the-variants.{Done, Refused}
 use Rattle.model.specs.Raw.{flat}
 use Rattle.model.specs.Form.{argsOk}
 use Rattle.model.specs.Calls.{formAnswer, combinedLayer, written}
+use Rattle.form.proofs.Accepted.{accepted}
 use Rattle.combine.proofs.Answering.{
   args-refused,
   lower-form-refused,
@@ -130,9 +131,11 @@ fit-both-requires c κs =
     let e = c .before .before .before .before .before .before .before .before in
     let r = c .before .before .before .before .before in
     let d = c .before in
-    let a = s .args in
-    forms (a .c) (a .keys .now) (a .mr) (a .r .now) (a .mw) (a .w .now) (length (a .out .now)) (passed e)
-    (r .rows .given .0 .0) (lower-done r) (d .enum-told .given .0 .0) (upper-done d)
+    let a = s .args in (
+      forms (a .c) (a .keys .now) (a .mr) (a .r .now) (a .mw) (a .w .now) (length (a .out .now)) (passed e)
+          (r .rows .given .0 .0) (lower-done r) (d .enum-told .given .0 .0) (upper-done d),
+      accepted (a .c) (length (a .keys .now)) (a .mr) (a .r .now) (r .rows .given .0 .0) (lower-done r) .shown,
+    )
 
 returns-2 : tie.Need-returns-2
 returns-2 c =

@@ -3,16 +3,19 @@
 -- Assumes nothing.
 use borrow.Author.Needs.{needs}
 use native.Mathlib.Omega.{arith}
-use mathlib.Core.Path.{sym, _∙_}
-use Prim.Native.Nat.{_+_, _*_, _-_, _≤_, _<_}
+use mathlib.Core.Path.{_≡_, sym, ap, _∙_}
+use Prim.Native.Nat.{ℕ, _+_, _*_, _-_, _≤_, _<_}
 use lib.ListN.{length}
 use lib.Dec.{ltb}
 use borrow.Author.Tests.{ltb-true}
 use Rattle.order.proofs.Tests.{and-l, and-r}
 use Rattle.model.specs.Layer.{rowsAfter}
-use Rattle.model.specs.Raw.{layerOf}
+use Rattle.model.specs.Raw.{entryAt, editOf, layerOf}
+use Rattle.model.specs.Meaning.{keyOf}
 use Rattle.form.proofs.Accepted.{Accepted, accepted}
-use Rattle.combine.proofs.Walking.{lower-room, upper-room, lower-alone, upper-alone, runs, ahead}
+use Rattle.combine.specs.Woven.{stepBy, stepOf}
+use Rattle.combine.specs.Over.{over}
+use Rattle.combine.proofs.Walking.{lower-room, upper-room, lower-alone, runs, ahead}
 use Rattle.combine.proofs.Tallying.{
   Counting,
   set-out,
@@ -28,25 +31,25 @@ use Rattle.combine.proofs.tally.count.Statement.{statement}
 use Rattle.combine.proofs.tally.count.Tie as tie
 
 abbrev Inv-loop : tie.InvT-loop
-Inv-loop c keys mid mr r mw w wide i₀ j₀ m₀ i j m = Counting c keys mid mr r mw w i j m
+Inv-loop c keys names mr r mw w wide i₀ j₀ m₀ i j m = Counting c keys (over c keys mr r) mr r mw w i j m
 
 abbrev μ-loop : tie.MeasureT-loop
-μ-loop c keys mid mr r mw w wide i₀ j₀ m₀ i j m = (mr - i) + (mw - j)
+μ-loop c keys names mr r mw w wide i₀ j₀ m₀ i j m = (mr - i) + (mw - j)
 
 -- both layers are in form
 low-at : (s : tie.Start Inv-loop μ-loop) → let a = s .args in
-    Accepted (a .c) (length (a .keys .now)) (a .mr) (a .r .now) (length (a .mid .now))
+    Accepted (a .c) (length (a .keys .now)) (a .mr) (a .r .now) (length (over (a .c) (a .keys .now) (a .mr) (a .r .now)))
 low-at s =
     let a = s .args in
-    accepted (a .c) (length (a .keys .now)) (a .mr) (a .r .now) (length (a .mid .now)) (s .pre .lower)
+    accepted (a .c) (length (a .keys .now)) (a .mr) (a .r .now) (length (over (a .c) (a .keys .now) (a .mr) (a .r .now))) (s .pre .lower)
 
 up-at : (s : tie.Start Inv-loop μ-loop) → let a = s .args in
-    Accepted (a .c) (length (a .mid .now)) (a .mw) (a .w .now)
-    (rowsAfter (length (a .mid .now)) (layerOf (a .c) (a .mw) (a .w .now)))
+    Accepted (a .c) (length (over (a .c) (a .keys .now) (a .mr) (a .r .now))) (a .mw) (a .w .now)
+    (rowsAfter (length (over (a .c) (a .keys .now) (a .mr) (a .r .now))) (layerOf (a .c) (a .mw) (a .w .now)))
 up-at s =
     let a = s .args in
-    accepted (a .c) (length (a .mid .now)) (a .mw) (a .w .now)
-    (rowsAfter (length (a .mid .now)) (layerOf (a .c) (a .mw) (a .w .now))) (s .pre .upper)
+    accepted (a .c) (length (over (a .c) (a .keys .now) (a .mr) (a .r .now))) (a .mw) (a .w .now)
+    (rowsAfter (length (over (a .c) (a .keys .now) (a .mr) (a .r .now))) (layerOf (a .c) (a .mw) (a .w .now))) (s .pre .upper)
 
 -- within the loop
 module _ (c : tie.In-loop Inv-loop μ-loop) where
@@ -54,12 +57,12 @@ module _ (c : tie.In-loop Inv-loop μ-loop) where
   start = c .before .before .before .before .before .before
 
   low : let a = start .args in
-      Accepted (a .c) (length (a .keys .now)) (a .mr) (a .r .now) (length (a .mid .now))
+      Accepted (a .c) (length (a .keys .now)) (a .mr) (a .r .now) (length (over (a .c) (a .keys .now) (a .mr) (a .r .now)))
   low = low-at start
 
   up : let a = start .args in
-      Accepted (a .c) (length (a .mid .now)) (a .mw) (a .w .now)
-      (rowsAfter (length (a .mid .now)) (layerOf (a .c) (a .mw) (a .w .now)))
+      Accepted (a .c) (length (over (a .c) (a .keys .now) (a .mr) (a .r .now))) (a .mw) (a .w .now)
+      (rowsAfter (length (over (a .c) (a .keys .now) (a .mr) (a .r .now))) (layerOf (a .c) (a .mw) (a .w .now)))
   up = up-at start
 
   inside : (c .before .loop .i < start .args .mr) × (c .before .loop .j < start .args .mw)
@@ -93,13 +96,29 @@ totals c =
     let s = c .before .before .before .before .before in
     (g .lower-upto, g .upper-upto, omega (arith, g .few, low-at s .held .entries, up-at s .held .entries))
 
+-- the step is that of the definition, by the key that the upper layer's entry concerns
+stepped : (c : tie.After-next-step Inv-loop μ-loop) →
+    let t = c .before in
+    let l = t .before .loop in
+    let a = start t .args in
+    c .next-step .result ≡ stepOf (a .keys .now) (over (a .c) (a .keys .now) (a .mr) (a .r .now))
+    (editOf (entryAt (a .c) (l .i * (a .c + 2)) (a .r .now))) (editOf (entryAt (a .c) (l .j * (a .c + 2)) (a .w .now)))
+stepped c =
+    let t = c .before in
+    let l = t .before .loop in
+    let a = start t .args in
+    let e = editOf (entryAt (a .c) (l .i * (a .c + 2)) (a .r .now)) in
+    let f = editOf (entryAt (a .c) (l .j * (a .c + 2)) (a .w .now)) in
+    c .next-step .ensures
+    ∙ ap (λ (k : ℕ). stepBy (keyOf (a .keys .now) e) k e f) (start t .pre .named (l .j) (inside t .1))
+
 add-wide : tie.Need-add-wide Inv-loop μ-loop
 add-wide c = omega (arith, low-at (c .before .before .before .before) .held .columns)
 
 loop-holds : tie.Need-loop-holds Inv-loop μ-loop
 loop-holds c =
     let a = c .before .before .before .before .args in
-    set-out (a .c) (a .keys .now) (a .mid .now) (a .mr) (a .r .now) (a .mw) (a .w .now)
+    set-out (a .c) (a .keys .now) (over (a .c) (a .keys .now) (a .mr) (a .r .now)) (a .mr) (a .r .now) (a .mw) (a .w .now)
 
 mul-at : tie.Need-mul-at Inv-loop μ-loop
 mul-at c = omega (arith, lower-here c)
@@ -110,7 +129,8 @@ mul-bt c = omega (arith, upper-here c)
 next-step-requires : tie.Need-next-step-requires Inv-loop μ-loop
 next-step-requires c κs = (
   lower-alone (low c) (up c) (c .before .loop .inv .walked) (inside c .0) (inside c .1),
-  upper-alone (low c) (up c) (c .before .loop .inv .walked) (inside c .0) (inside c .1),
+  upper-here c,
+  omega (arith, inside c, start c .pre .room),
 )
 
 enum-told : tie.Need-enum-told Inv-loop μ-loop
@@ -129,7 +149,7 @@ loop-again : tie.Need-loop-again Inv-loop μ-loop
 loop-again c =
     let t = c .before .before .before in
     on-lower (low t) (up t) (t .before .loop .inv) (inside t .0) (inside t .1)
-    (sym (c .enum-told .given .1) ∙ c .before .before .next-step .ensures)
+    (sym (c .enum-told .given .1) ∙ stepped (c .before .before))
 
 enum-told-2 : tie.Need-enum-told-2 Inv-loop μ-loop
 enum-told-2 c = search needs
@@ -147,7 +167,7 @@ loop-again-2 : tie.Need-loop-again-2 Inv-loop μ-loop
 loop-again-2 c =
     let t = c .before .before .before in
     on-upper (low t) (up t) (t .before .loop .inv) (inside t .0) (inside t .1)
-    (sym (c .enum-told2 .given .1) ∙ c .before .before .next-step .ensures)
+    (sym (c .enum-told2 .given .1) ∙ stepped (c .before .before))
 
 enum-told-3 : tie.Need-enum-told-3 Inv-loop μ-loop
 enum-told-3 c = search needs
@@ -165,7 +185,7 @@ loop-again-3 : tie.Need-loop-again-3 Inv-loop μ-loop
 loop-again-3 c =
     let t = c .before .before .before in
     on-here (low t) (up t) (t .before .loop .inv) (inside t .0) (inside t .1)
-    (sym (c .enum-told3 .given .1) ∙ c .before .before .next-step .ensures)
+    (sym (c .enum-told3 .given .1) ∙ stepped (c .before .before))
 
 enum-told-4 : tie.Need-enum-told-4 Inv-loop μ-loop
 enum-told-4 c = search needs
@@ -180,7 +200,7 @@ loop-again-4 : tie.Need-loop-again-4 Inv-loop μ-loop
 loop-again-4 c =
     let t = c .before .before .before in
     on-drop (low t) (up t) (t .before .loop .inv) (inside t .0) (inside t .1)
-    (sym (c .enum-told4 .given .1) ∙ c .before .before .next-step .ensures)
+    (sym (c .enum-told4 .given .1) ∙ stepped (c .before .before))
 
 enum-told-5 : tie.Need-enum-told-5 Inv-loop μ-loop
 enum-told-5 c = search needs
@@ -198,7 +218,7 @@ loop-again-5 : tie.Need-loop-again-5 Inv-loop μ-loop
 loop-again-5 c =
     let t = c .before .before .before in
     on-vanish (low t) (up t) (t .before .loop .inv) (inside t .0) (inside t .1)
-    (sym (c .enum-told5 .given .1) ∙ c .before .before .next-step .ensures)
+    (sym (c .enum-told5 .given .1) ∙ stepped (c .before .before))
 
 enum-told-6 : tie.Need-enum-told-6 Inv-loop μ-loop
 enum-told-6 c = search needs
@@ -240,7 +260,7 @@ loop-again-6 : tie.Need-loop-again-6 Inv-loop μ-loop
 loop-again-6 c =
     let t = c .before .before .before .before .before in
     on-patch (low t) (up t) (t .before .loop .inv) (inside t .0) (inside t .1)
-    (sym (c .before .before .enum-told6 .given .1) ∙ c .before .before .before .before .next-step .ensures)
+    (sym (c .before .before .enum-told6 .given .1) ∙ stepped (c .before .before .before .before))
     (c .changes-ahead .result) (c .changes-ahead .ensures)
 
 sub-result : tie.Need-sub-result Inv-loop μ-loop

@@ -10,6 +10,7 @@ use Rattle.model.specs.Layer.{rowsAfter}
 use Rattle.model.specs.Raw.{layerOf}
 use Rattle.form.proofs.Accepted.{accepted}
 use Rattle.combine.specs.Woven.{wovenLayer}
+use Rattle.combine.specs.Over.{over}
 use Rattle.combine.proofs.Tallying.{at-most}
 use borrow.Author.Needs.{needs}
 use Rattle.combine.proofs.tally.more_than.Statement.{statement}
@@ -19,9 +20,9 @@ use Rattle.combine.proofs.tally.more_than.Tie as tie
 few : (s : tie.Start) → (s .args .mr ≤ 512) × (s .args .mw ≤ 512)
 few s =
     let a = s .args in (
-      accepted (a .c) (length (a .keys .now)) (a .mr) (a .r .now) (length (a .mid .now)) (s .pre .lower) .held .entries,
-      accepted (a .c) (length (a .mid .now)) (a .mw) (a .w .now)
-          (rowsAfter (length (a .mid .now)) (layerOf (a .c) (a .mw) (a .w .now))) (s .pre .upper) .held .entries,
+      accepted (a .c) (length (a .keys .now)) (a .mr) (a .r .now) (length (over (a .c) (a .keys .now) (a .mr) (a .r .now))) (s .pre .lower) .held .entries,
+      accepted (a .c) (length (over (a .c) (a .keys .now) (a .mr) (a .r .now))) (a .mw) (a .w .now)
+          (rowsAfter (length (over (a .c) (a .keys .now) (a .mr) (a .r .now))) (layerOf (a .c) (a .mw) (a .w .now))) (s .pre .upper) .held .entries,
     )
 
 add-if1 : tie.Need-add-if1
@@ -30,11 +31,11 @@ add-if1 c = omega (arith, few (c .before .before .before .before))
 returns : tie.Need-returns
 returns c =
     let a = c .before .before .before .before .before .args in
-    sym (le-ltb (a .room) (length (wovenLayer (a .keys .now) (a .mid .now) (layerOf (a .c) (a .mr) (a .r .now))
+    sym (le-ltb (a .room) (length (wovenLayer (a .keys .now) (over (a .c) (a .keys .now) (a .mr) (a .r .now)) (layerOf (a .c) (a .mr) (a .r .now))
     (layerOf (a .c) (a .mw) (a .w .now))))
     (omega (
       arith,
-      at-most (a .c) (a .keys .now) (a .mid .now) (a .mr) (a .r .now) (a .mw) (a .w .now),
+      at-most (a .c) (a .keys .now) (over (a .c) (a .keys .now) (a .mr) (a .r .now)) (a .mr) (a .r .now) (a .mw) (a .w .now),
       c .if1 .taken,
     )))
 

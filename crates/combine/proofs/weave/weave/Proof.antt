@@ -4,22 +4,23 @@
 -- Assumes nothing.
 use borrow.Author.Needs.{needs}
 use native.Mathlib.Omega.{arith}
-use mathlib.Core.Path.{refl, sym, _∙_}
-use Prim.Native.Nat.{_+_, _*_, _-_, _≤_, _<_}
+use mathlib.Core.Path.{_≡_, refl, sym, ap, _∙_}
+use Prim.Native.Nat.{ℕ, _+_, _*_, _-_, _≤_, _<_}
 use lib.ListN.{length, getD}
 use lib.Dec.{ltb}
 use borrow.Author.Tests.{ltb-true}
 use Rattle.order.proofs.Tests.{and-l, and-r}
 use Rattle.model.specs.Layer.{rowsAfter}
-use Rattle.model.specs.Raw.{layerOf}
+use Rattle.model.specs.Raw.{entryAt, editOf, layerOf}
+use Rattle.model.specs.Meaning.{keyOf}
 use Rattle.form.proofs.Accepted.{Accepted, accepted}
-use Rattle.combine.specs.Woven.{wovenLayer}
+use Rattle.combine.specs.Woven.{stepBy, stepOf, wovenLayer}
 use Rattle.combine.specs.Walk.{Woven}
+use Rattle.combine.specs.Over.{over}
 use Rattle.combine.proofs.Walking.{
   lower-room,
   upper-room,
   lower-alone,
-  upper-alone,
   upper-low,
   runs,
   ahead,
@@ -46,26 +47,26 @@ use Rattle.combine.proofs.weave.weave.Statement.{statement}
 use Rattle.combine.proofs.weave.weave.Tie as tie
 
 abbrev Inv-loop : tie.InvT-loop
-Inv-loop c keys mid mr r mw w out₀ wide i₀ j₀ m₀ adds₀ strikes₀ out i j m adds strikes =
-    Walking c keys mid mr r mw w out₀ i j m adds strikes out
+Inv-loop c keys names mr r mw w out₀ wide i₀ j₀ m₀ adds₀ strikes₀ out i j m adds strikes =
+    Walking c keys (over c keys mr r) mr r mw w out₀ i j m adds strikes out
 
 abbrev μ-loop : tie.MeasureT-loop
-μ-loop c keys mid mr r mw w out₀ wide i₀ j₀ m₀ adds₀ strikes₀ out i j m adds strikes = (mr - i) + (mw - j)
+μ-loop c keys names mr r mw w out₀ wide i₀ j₀ m₀ adds₀ strikes₀ out i j m adds strikes = (mr - i) + (mw - j)
 
 -- both layers are in form
 low-at : (s : tie.Start Inv-loop μ-loop) → let a = s .args in
-    Accepted (a .c) (length (a .keys .now)) (a .mr) (a .r .now) (length (a .mid .now))
+    Accepted (a .c) (length (a .keys .now)) (a .mr) (a .r .now) (length (over (a .c) (a .keys .now) (a .mr) (a .r .now)))
 low-at s =
     let a = s .args in
-    accepted (a .c) (length (a .keys .now)) (a .mr) (a .r .now) (length (a .mid .now)) (s .pre .0 .lower)
+    accepted (a .c) (length (a .keys .now)) (a .mr) (a .r .now) (length (over (a .c) (a .keys .now) (a .mr) (a .r .now))) (s .pre .0 .lower)
 
 up-at : (s : tie.Start Inv-loop μ-loop) → let a = s .args in
-    Accepted (a .c) (length (a .mid .now)) (a .mw) (a .w .now)
-    (rowsAfter (length (a .mid .now)) (layerOf (a .c) (a .mw) (a .w .now)))
+    Accepted (a .c) (length (over (a .c) (a .keys .now) (a .mr) (a .r .now))) (a .mw) (a .w .now)
+    (rowsAfter (length (over (a .c) (a .keys .now) (a .mr) (a .r .now))) (layerOf (a .c) (a .mw) (a .w .now)))
 up-at s =
     let a = s .args in
-    accepted (a .c) (length (a .mid .now)) (a .mw) (a .w .now)
-    (rowsAfter (length (a .mid .now)) (layerOf (a .c) (a .mw) (a .w .now))) (s .pre .0 .upper)
+    accepted (a .c) (length (over (a .c) (a .keys .now) (a .mr) (a .r .now))) (a .mw) (a .w .now)
+    (rowsAfter (length (over (a .c) (a .keys .now) (a .mr) (a .r .now))) (layerOf (a .c) (a .mw) (a .w .now))) (s .pre .0 .upper)
 
 -- within the loop
 module _ (c : tie.In-loop Inv-loop μ-loop) where
@@ -73,16 +74,16 @@ module _ (c : tie.In-loop Inv-loop μ-loop) where
   start = c .before .before .before .before .before .before .before
 
   low : let a = start .args in
-      Accepted (a .c) (length (a .keys .now)) (a .mr) (a .r .now) (length (a .mid .now))
+      Accepted (a .c) (length (a .keys .now)) (a .mr) (a .r .now) (length (over (a .c) (a .keys .now) (a .mr) (a .r .now)))
   low = low-at start
 
   up : let a = start .args in
-      Accepted (a .c) (length (a .mid .now)) (a .mw) (a .w .now)
-      (rowsAfter (length (a .mid .now)) (layerOf (a .c) (a .mw) (a .w .now)))
+      Accepted (a .c) (length (over (a .c) (a .keys .now) (a .mr) (a .r .now))) (a .mw) (a .w .now)
+      (rowsAfter (length (over (a .c) (a .keys .now) (a .mr) (a .r .now))) (layerOf (a .c) (a .mw) (a .w .now)))
   up = up-at start
 
   space : let a = start .args in
-      length (wovenLayer (a .keys .now) (a .mid .now) (layerOf (a .c) (a .mr) (a .r .now))
+      length (wovenLayer (a .keys .now) (over (a .c) (a .keys .now) (a .mr) (a .r .now)) (layerOf (a .c) (a .mr) (a .r .now))
       (layerOf (a .c) (a .mw) (a .w .now))) * (a .c + 2) ≤ length (a .out .now)
   space = start .pre .1
 
@@ -131,7 +132,7 @@ totals c =
 all-there : (c : tie.After-slice-known6 Inv-loop μ-loop) → let l = c .before .before .before .before .before .loop in
     let a = c .before .before .before .before .before .before .before .before .before .before .before .args in
     Woven (a .c)
-    (wovenLayer (a .keys .now) (a .mid .now) (layerOf (a .c) (a .mr) (a .r .now)) (layerOf (a .c) (a .mw) (a .w .now)))
+    (wovenLayer (a .keys .now) (over (a .c) (a .keys .now) (a .mr) (a .r .now)) (layerOf (a .c) (a .mr) (a .r .now)) (layerOf (a .c) (a .mw) (a .w .now)))
     (l .m + (a .mr - l .i) + (a .mw - l .j)) (a .out .now)
     (c .before .before .finish .last .1 .1 .1 .1 .1 .1 .1 .1 .1 .0)
 all-there c =
@@ -140,13 +141,29 @@ all-there c =
     ended (low-at s) (up-at s) (s .pre .1) (c .before .before .before .before .before .loop .inv)
     (c .before .before .before .before .loop-test .left) (f .last .1 .1 .1 .1 .1 .1 .1 .1 .1 .0) (f .ensures)
 
+-- the step is that of the definition, by the key that the upper layer's entry concerns
+stepped : (c : tie.After-next-step Inv-loop μ-loop) →
+    let t = c .before in
+    let l = t .before .loop in
+    let a = start t .args in
+    c .next-step .result ≡ stepOf (a .keys .now) (over (a .c) (a .keys .now) (a .mr) (a .r .now))
+    (editOf (entryAt (a .c) (l .i * (a .c + 2)) (a .r .now))) (editOf (entryAt (a .c) (l .j * (a .c + 2)) (a .w .now)))
+stepped c =
+    let t = c .before in
+    let l = t .before .loop in
+    let a = start t .args in
+    let e = editOf (entryAt (a .c) (l .i * (a .c + 2)) (a .r .now)) in
+    let f = editOf (entryAt (a .c) (l .j * (a .c + 2)) (a .w .now)) in
+    c .next-step .ensures
+    ∙ ap (λ (k : ℕ). stepBy (keyOf (a .keys .now) e) k e f) (start t .pre .0 .named (l .j) (inside t .1))
+
 add-wide : tie.Need-add-wide Inv-loop μ-loop
 add-wide c = omega (arith, low-at (c .before .before .before .before .before) .held .columns)
 
 loop-holds : tie.Need-loop-holds Inv-loop μ-loop
 loop-holds c =
     let a = c .before .before .before .before .before .args in
-    set-out (a .c) (a .keys .now) (a .mid .now) (a .mr) (a .r .now) (a .mw) (a .w .now) (a .out .now)
+    set-out (a .c) (a .keys .now) (over (a .c) (a .keys .now) (a .mr) (a .r .now)) (a .mr) (a .r .now) (a .mw) (a .w .now) (a .out .now)
 
 mul-at : tie.Need-mul-at Inv-loop μ-loop
 mul-at c = omega (arith, lower-here c)
@@ -160,7 +177,8 @@ mul-o c = omega (arith, out-here c, c .before .before .before .before .before .b
 next-step-requires : tie.Need-next-step-requires Inv-loop μ-loop
 next-step-requires c κs = (
   lower-alone (low c) (up c) (c .before .loop .inv .walked) (inside c .0) (inside c .1),
-  upper-alone (low c) (up c) (c .before .loop .inv .walked) (inside c .0) (inside c .1),
+  upper-here c,
+  omega (arith, inside c, start c .pre .0 .room),
 )
 
 enum-told : tie.Need-enum-told Inv-loop μ-loop
@@ -178,7 +196,7 @@ put-entry-requires c κs =
       lower-here t,
       room-for (low t) (up t) (space t) (t .before .loop .inv)
           (lower-goes (low t) (up t) (t .before .loop .inv .walked) (inside t .0) (inside t .1)
-          (sym (c .before .before .enum-told .given .1) ∙ c .before .before .before .before .next-step .ensures)),
+          (sym (c .before .before .enum-told .given .1) ∙ stepped (c .before .before .before .before))),
     )
 
 add-one-if : tie.Need-add-one-if Inv-loop μ-loop
@@ -248,7 +266,7 @@ loop-again c =
     let p = c .before .before .before .before .before .before .put-entry in
     on-lower (low t) (up t) (space t) (t .before .loop .inv) (inside t .0) (inside t .1)
     (sym (c .before .before .before .before .before .before .before .before .before .enum-told .given .1)
-    ∙ c .before .before .before .before .before .before .before .before .before .before .before .next-step .ensures)
+    ∙ stepped (c .before .before .before .before .before .before .before .before .before .before .before))
     (a .result) (s .result) (p .last .1 .1 .1 .1 .0) (a .ensures .0) (a .ensures .1) (s .ensures .0) (s .ensures .1)
     (p .ensures)
 
@@ -271,7 +289,7 @@ put-entry-requires-2 c κs =
       room-for (low t) (up t) (space t) (t .before .loop .inv)
           (next-upper (low t) (up t) (t .before .loop .inv .walked) (inside t .0) (inside t .1)
           (sym (c .before .before .before .enum-told2 .given .1)
-          ∙ c .before .before .before .before .before .next-step .ensures)),
+          ∙ stepped (c .before .before .before .before .before))),
     )
 
 add-j : tie.Need-add-j Inv-loop μ-loop
@@ -290,7 +308,7 @@ loop-again-2 c =
     let p = c .before .before .put-entry2 in
     on-upper (low t) (up t) (space t) (t .before .loop .inv) (inside t .0) (inside t .1)
     (sym (c .before .before .before .before .before .before .enum-told2 .given .1)
-    ∙ c .before .before .before .before .before .before .before .before .next-step .ensures)
+    ∙ stepped (c .before .before .before .before .before .before .before .before))
     (b .result) (p .last .1 .1 .1 .1 .0) (b .ensures) (p .ensures)
 
 enum-told-3 : tie.Need-enum-told-3 Inv-loop μ-loop
@@ -308,7 +326,7 @@ put-entry-requires-3 c κs =
       upper-here t,
       room-for (low t) (up t) (space t) (t .before .loop .inv)
           (next-here (low t) (up t) (t .before .loop .inv .walked) (inside t .0) (inside t .1)
-          (sym (c .before .before .enum-told3 .given .1) ∙ c .before .before .before .before .next-step .ensures)),
+          (sym (c .before .before .enum-told3 .given .1) ∙ stepped (c .before .before .before .before))),
     )
 
 add-j-2 : tie.Need-add-j-2 Inv-loop μ-loop
@@ -326,7 +344,7 @@ loop-again-3 c =
     let p = c .before .before .put-entry3 in
     on-here (low t) (up t) (space t) (t .before .loop .inv) (inside t .0) (inside t .1)
     (sym (c .before .before .before .before .before .enum-told3 .given .1)
-    ∙ c .before .before .before .before .before .before .before .next-step .ensures)
+    ∙ stepped (c .before .before .before .before .before .before .before))
     (p .last .1 .1 .1 .1 .0) (p .ensures)
 
 enum-told-4 : tie.Need-enum-told-4 Inv-loop μ-loop
@@ -342,7 +360,7 @@ loop-again-4 : tie.Need-loop-again-4 Inv-loop μ-loop
 loop-again-4 c =
     let t = c .before .before .before in
     on-drop (low t) (up t) (space t) (t .before .loop .inv) (inside t .0) (inside t .1)
-    (sym (c .enum-told4 .given .1) ∙ c .before .before .next-step .ensures)
+    (sym (c .enum-told4 .given .1) ∙ stepped (c .before .before))
 
 enum-told-5 : tie.Need-enum-told-5 Inv-loop μ-loop
 enum-told-5 c = search needs
@@ -363,7 +381,7 @@ loop-again-5 : tie.Need-loop-again-5 Inv-loop μ-loop
 loop-again-5 c =
     let t = c .before .before .before in
     on-vanish (low t) (up t) (space t) (t .before .loop .inv) (inside t .0) (inside t .1)
-    (sym (c .enum-told5 .given .1) ∙ c .before .before .next-step .ensures)
+    (sym (c .enum-told5 .given .1) ∙ stepped (c .before .before))
 
 enum-told-6 : tie.Need-enum-told-6 Inv-loop μ-loop
 enum-told-6 c = search needs
@@ -378,7 +396,7 @@ put-patched-requires c κs =
       upper-here t,
       room-for (low t) (up t) (space t) (t .before .loop .inv)
           (next-patch (low t) (up t) (t .before .loop .inv .walked) (inside t .0) (inside t .1)
-          (sym (c .before .enum-told6 .given .1) ∙ c .before .before .before .next-step .ensures) _ refl),
+          (sym (c .before .enum-told6 .given .1) ∙ stepped (c .before .before .before)) _ refl),
       runs (low t) (up t) (t .before .loop .inv .walked) (inside t .0)
           (inside t .1),
     )
@@ -411,7 +429,7 @@ loop-again-6 c =
     let p = c .before .before .put-patched in
     on-patch (low t) (up t) (space t) (t .before .loop .inv) (inside t .0) (inside t .1)
     (sym (c .before .before .before .before .enum-told6 .given .1)
-    ∙ c .before .before .before .before .before .before .next-step .ensures)
+    ∙ stepped (c .before .before .before .before .before .before))
     (p .result) (p .last .1 .1 .1 .1 .1 .1 .0) (p .ensures .0) (p .ensures .1)
 
 mul-finish : tie.Need-mul-finish Inv-loop μ-loop

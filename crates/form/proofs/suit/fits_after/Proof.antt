@@ -2,16 +2,17 @@
 -- Assumes nothing.
 use borrow.Author.Needs.{needs}
 use native.Mathlib.Omega.{arith}
+use mathlib.Core.Path.{_∙_}
 use mathlib.Core.Bool.{and-true}
 use Prim.Native.Nat.{_-_, _<_}
 use lib.ListN.{length, getD}
 use Rattle.model.specs.Raw.{entryAt, entriesAt}
 use Rattle.form.specs.Suit.{first}
 use Rattle.form.proofs.Looks.{
-  suits-add,
   suits-strike,
   suits-change,
   rises-other,
+  add-fits,
   sound-add,
   sound-strike,
   first-at,
@@ -43,33 +44,27 @@ mul-v c = search needs
 shared-slice-read-v : tie.Need-shared-slice-read-v
 shared-slice-read-v c = search needs
 
-above-last-requires : tie.Need-above-last-requires
-above-last-requires c κs =
+key-before-requires : tie.Need-key-before-requires
+key-before-requires c κs =
     let s = c .before .before .before .before .before .before in
     let a = s .args in
     sound-add (a .c) (length (a .keys .now)) (entryAt (a .c) (a .at) (a .layer .now)) (s .pre .3) (c .if1 .taken)
 
-under-next-requires : tie.Need-under-next-requires
-under-next-requires c κs = search needs
+key-there-requires : tie.Need-key-there-requires
+key-there-requires c κs = search needs
 
-rises-requires : tie.Need-rises-requires
-rises-requires c κs = search needs
+add-fits-requires : tie.Need-add-fits-requires
+add-fits-requires c κs = search needs
 
 returns : tie.Need-returns
 returns c =
     let s = c .before .before .before .before .before .before .before .before .before in
     let a = s .args in
     let xs = a .layer .now in
-    let e = entryAt (a .c) (a .at) xs in
-    let add = c .before .before .before .if1 .taken in
-    rw (
-      c .before .before .above-last .ensures,
-      c .before .under-next .ensures,
-      c .rises .ensures,
-      suits-add (a .keys .now) e (entriesAt (a .c) (a .m - a .i) (a .at) xs) add,
-      add,
-      first-at (a .c) (a .at) xs (s .pre .2),
-    )
+    c .add-fits .ensures
+    ∙ add-fits (a .keys .now) (entryAt (a .c) (a .at) xs) (entriesAt (a .c) (a .m - a .i) (a .at) xs)
+    (c .before .before .key-before .result) (c .before .key-there .result) (a .p) (a .q) (a .u)
+    (c .before .before .before .if1 .taken) (c .before .before .key-before .ensures) (c .before .key-there .ensures)
 
 -- a strike stands at a row
 below : (c : tie.Then2) →
@@ -121,9 +116,9 @@ fits-after-spec =
     add-v
     mul-v
     shared-slice-read-v
-    above-last-requires
-    under-next-requires
-    rises-requires
+    key-before-requires
+    key-there-requires
+    add-fits-requires
     returns
     mul-result
     shared-slice-read-result
