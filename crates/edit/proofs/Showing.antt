@@ -25,6 +25,7 @@ use Rattle.order.proofs.Members.{any-mem, any-of, map-mem, mem-map}
 use Rattle.order.proofs.Counts.{count-le}
 use Rattle.order.proofs.Pairs.{AllPairs}
 use Rattle.order.proofs.Ascending.{At, below, at-mem, at-count, at-length, getD-at, count-strict}
+use Rattle.order.proofs.Splice.{front, rest, drop-mem, pairs-drop}
 use Rattle.model.specs.declared.Entry.{Entry}
 use Rattle.model.specs.Row.{Row, Table, key, keys}
 use Rattle.model.specs.Cell.{to}
@@ -41,15 +42,7 @@ use Rattle.model.proofs.Fit.{Fit, key-kept, key-of, below-keys}
 use Rattle.model.proofs.Column.{keys-read, singles, keys-singles, singles-length}
 use Rattle.edit.specs.Landing.{aim, landing}
 use Rattle.edit.specs.Ready.{entryIs, numberIs}
-use Rattle.edit.proofs.Splice.{front, rest, drop-mem, pairs-drop}
-use Rattle.edit.proofs.Known.{
-  Known,
-  from-entry,
-  cons-head,
-  there,
-  head-is,
-  head-not,
-}
+use Rattle.edit.proofs.Known.{Known, from-entry, cons-head, there, head-is, head-not}
 
 -- an add at p
 abbrev pub addAt : ℕ → Edit → Bool

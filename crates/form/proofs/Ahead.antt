@@ -22,7 +22,8 @@ use borrow.Author.Tests.{eqb-false, ne-eqb}
 use Rattle.order.specs.Lists.{any}
 use Rattle.order.proofs.Tests.{eqb-sym, lex-cases}
 use Rattle.order.proofs.Members.{any-none, mem-map}
-use Rattle.order.proofs.Pairs.{AllPairs, Unbroken}
+use Rattle.order.proofs.Pairs.{AllPairs, Unbroken, unbroken-next}
+use Rattle.order.proofs.Neighbours.{leastAfter, from-start}
 use Rattle.model.specs.declared.Entry.{Entry}
 use Rattle.model.specs.Row.{Row, key}
 use Rattle.model.specs.Cell.{CellEdit, to}
@@ -33,7 +34,6 @@ use Rattle.model.specs.Fit.{above, suits, keysRise, rises, fitPlace}
 use Rattle.model.proofs.Edits.{before-of, before-rises, before-trans}
 use Rattle.form.specs.Suit.{first, struckAhead, underAhead, suitsAhead, risesKind, fitFrom}
 use Rattle.form.proofs.ByKind.{editBy, one-kind}
-use Rattle.form.proofs.Neighbours.{leastAfter, unbroken-next, from-start}
 use Rattle.form.proofs.Formed.{Formed, past-strike}
 
 -- positions never fall
