@@ -14,7 +14,6 @@ use Rattle.order.proofs.Members.{mem-map}
 use Rattle.order.proofs.Pairs.{AllPairs, pairs-unmap, none-broken}
 use Rattle.model.specs.declared.Entry.{Entry}
 use Rattle.model.specs.declared.Refusal.{Refusal}
-use Rattle.model.specs.declared.Answer.{Answer}
 use Rattle.model.specs.declared.Answer.the-variants.{Done, Refused}
 use Rattle.model.specs.Layer.{Edit, isStrike, rowsAfter}
 use Rattle.model.specs.Raw.{Held, entriesOf, editOf, layerOf, flat}
@@ -26,7 +25,7 @@ use Rattle.model.proofs.Raw.{entries-length, layer-length, form-place, args-hel
 use Rattle.model.proofs.Fit.{in-order, fits-all}
 use Rattle.form.specs.InForm.{InForm}
 use Rattle.form.proofs.Formed.{Formed, Whole, whole, strikes-few}
-use Rattle.form.proofs.Answers.{onward, after-form, fit-accepted}
+use Rattle.form.proofs.Answers.{after-form, reached, fit-accepted}
 use Rattle.form.proofs.Flat.{flat-entries}
 
 pub record Accepted (c n m : ℕ) (xs : List ℕ) (rows : ℕ) : Type 0 where
@@ -154,14 +153,10 @@ pub record Fitted (c m : ℕ) (xs K : List ℕ) : Type 0 where
 
 module _ (c m : ℕ) (xs K : List ℕ) {k : ℕ} (h : fitAnswer c m xs K ≡ Done k) where
   -- the form is accepted, and then neither refusal is met
-  form-first : (r : Answer) {z : Answer} → onward Refused r z ≡ Done k → (rows : ℕ) × (r ≡ Done rows) × (z ≡ Done k)
-  form-first (Done rows) e = (rows, refl, e)
-  form-first (Refused x) e = absurd (let z : _≡_ {A = ℕ} 0 1 = cc in omega arith)
-
   fit-done : (rows : ℕ) × (formAnswer c (length K) m xs ≡ Done rows)
       × (firstMet Refused (badKeys K ∷ badFit 0 K (layerOf c m xs) ∷ []) (Done 0) ≡ Done k)
   unfolding fitAnswer
-  fit-done = form-first (formAnswer c (length K) m xs)
+  fit-done = reached (formAnswer c (length K) m xs)
       (sym (after-form Refused c (length K) m xs (badKeys K ∷ badFit 0 K (layerOf c m xs) ∷ []) (Done 0)) ∙ h)
 
   neither : (ascending K ≡ true) × (ltb (fitPlace K (layerOf c m xs)) (length (layerOf c m xs)) ≡ false)
