@@ -20,17 +20,16 @@ use Rattle.model.specs.Cell.{to}
 use Rattle.model.specs.Layer.{Layer, rowsAfter}
 use Rattle.model.specs.Raw.{layerOf, room as roomOf}
 use Rattle.model.specs.Read.{read, keysAfter}
-use Rattle.model.specs.Refusals.{refuse, refusal, firstMet, badRow, noRoom, tooManyRows, shownKey}
+use Rattle.model.specs.Refusals.{refuse, refusal, firstMet, noRoom, tooManyRows, shownKey}
 use Rattle.model.specs.Steps.{Step, adding, striking, changing, stepOn, Allowed}
 use Rattle.model.specs.Calls.{addAnswer, strikeAnswer, changeAnswer}
 use Rattle.model.proofs.Fit.{Good, good-of, key-kept, keys-length}
 use Rattle.model.proofs.Count.{read-length}
 use Rattle.model.proofs.Column.{keys-read}
 use Rattle.model.proofs.Edited.{strike-rows, change-rows}
-use Rattle.form.proofs.Answers.{onward}
+use Rattle.form.proofs.Answers.{reached}
 use Rattle.form.proofs.Accepted.{Accepted, accepted}
 use Rattle.edit.specs.Ready.{Ready, readyAnswer}
-use Rattle.edit.specs.Outcome.{addRest}
 use Rattle.edit.specs.Runs.{stepAnswer}
 use Rattle.edit.proofs.Answered.{ready-of, add-not-wide, add-rest, strike-rest, change-no-column, change-rest}
 
@@ -41,10 +40,6 @@ unmet false x z e = (refl, e)
 
 never : {A : Type 0} {x : Refusal} {k : ℕ} → Refused x ≡ Done k → A
 never e = absurd (let z : _≡_ {A = ℕ} 0 1 = cc in omega arith)
-
-reached : (a z : Answer) {k : ℕ} → onward Refused a z ≡ Done k → (rows : ℕ) × (a ≡ Done rows) × (z ≡ Done k)
-reached (Done rows) z e = (rows, refl, e)
-reached (Refused x) z e = never e
 
 done-is : {j k : ℕ} → Done j ≡ Done k → j ≡ k
 done-is e = cc
@@ -98,7 +93,7 @@ module _ (c m : ℕ) (raw : List ℕ) (T : Table) where
           let wide = eqb-true (length row) c e in
           let M = stepOn K (adding row) L in
           let many = tooManyRows (rowsAfter (length K) M) ∷ [] in
-          let w = reached (readyAnswer c m raw K) (addRest c m raw K row) (sym (add-rest c m raw K row wide) ∙ h) in
+          let w = reached (readyAnswer c m raw K) (sym (add-rest c m raw K row wide) ∙ h) in
           let R = ready-of c m raw K (w .0) (w .1) .0 in
           let t7 = unmet (shownKey (key row) (keysAfter K L)) (refusal 7 0)
           (firstMet Refused (noRoom c (length raw) M ∷ many) (Done (length M))) (w .2) in
@@ -119,9 +114,7 @@ module _ (c m : ℕ) (raw : List ℕ) (T : Table) where
   strike-accepts r k h =
       let M = stepOn K (striking r) L in
       let last = firstMet Refused (noRoom c (length raw) M ∷ []) (Done (length M)) in
-      let w = reached (readyAnswer c m raw K)
-      (firstMet Refused (badRow (length K) L r ∷ noRoom c (length raw) M ∷ []) (Done (length M)))
-      (sym (strike-rest c m raw K r) ∙ h) in
+      let w = reached (readyAnswer c m raw K) (sym (strike-rest c m raw K r) ∙ h) in
       let R = ready-of c m raw K (w .0) (w .1) .0 in
       let t5 = unmet (leb (rowsAfter (length K) L) r) (refusal 5 0) last (w .2) in
       let t9 = unmet (ltb (roomOf c (length raw)) (length M)) (refusal 9 0) (Done (length M)) (t5 .1) in
@@ -150,10 +143,7 @@ module _ (c m : ℕ) (raw : List ℕ) (T : Table) where
           let M = stepOn K (changing r j (to v)) L in
           let last = firstMet Refused (noRoom c (length raw) M ∷ []) (Done (length M)) in
           let column = firstMet Refused (refuse 6 0 (eqb j 0) ∷ noRoom c (length raw) M ∷ []) (Done (length M)) in
-          let w = reached (readyAnswer c m raw K)
-          (firstMet Refused (badRow (length K) L r ∷ refuse 6 0 (eqb j 0) ∷ noRoom c (length raw) M ∷ [])
-          (Done (length M)))
-          (sym (change-rest c m raw K r j v within) ∙ h) in
+          let w = reached (readyAnswer c m raw K) (sym (change-rest c m raw K r j v within) ∙ h) in
           let R = ready-of c m raw K (w .0) (w .1) .0 in
           let t5 = unmet (leb (rowsAfter (length K) L) r) (refusal 5 0) column (w .2) in
           let t6 = unmet (eqb j 0) (refusal 6 0) last (t5 .1) in

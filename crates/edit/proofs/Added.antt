@@ -10,6 +10,7 @@ use lib.ListN.{length, getD, take, drop, replicate}
 use lib.Seq.{paste, take-at, take-length}
 use borrow.Author.Tests.{lt-ltb, le-ltb}
 use Rattle.order.proofs.Counts.{count-insert}
+use Rattle.order.proofs.Splice.{front, rest, insert-at}
 use Rattle.model.specs.declared.Entry.{Entry}
 use Rattle.model.specs.declared.Answer.the-variants.{Done, Refused}
 use Rattle.model.specs.Row.{Row, key}
@@ -25,7 +26,6 @@ use Rattle.model.proofs.Edited.{add-length}
 use Rattle.write.specs.Replaced.{entryNumbers, replaced}
 use Rattle.edit.specs.Landing.{aim, landing}
 use Rattle.edit.specs.Outcome.{addRest}
-use Rattle.edit.proofs.Splice.{front, rest, insert-at}
 use Rattle.edit.proofs.Landed.{landing-le}
 use Rattle.edit.proofs.Known.{Known}
 use Rattle.edit.proofs.Entering.{new-slice}

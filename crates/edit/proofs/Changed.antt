@@ -22,6 +22,7 @@ use lib.Dec.{eqb}
 use borrow.Author.Tests.{eqb-true, ne-eqb, ltb-true}
 use Rattle.order.proofs.Tests.{and-l, and-r, not-passed, eqb-sym}
 use Rattle.order.proofs.Pairs.{AllPairs}
+use Rattle.order.proofs.Splice.{pairs-drop, front, rest, splice}
 use Rattle.model.specs.declared.Entry.{Entry}
 use Rattle.model.specs.Cell.{CellEdit, to}
 use Rattle.model.specs.Layer.{add, strike, change, Edit, at, Layer, changesCell}
@@ -30,7 +31,6 @@ use Rattle.model.specs.Edits.{before, changeBase}
 use Rattle.model.proofs.Edits.{before-cases, before-trans}
 use Rattle.edit.specs.Landing.{aim, landing}
 use Rattle.edit.specs.Ready.{entryIs}
-use Rattle.edit.proofs.Splice.{pairs-drop, front, rest, splice}
 
 -- a change stands where its position and column put it, whatever its value
 same-change : (d : Edit) (s j : ℕ) (f g : CellEdit) → before d (at s (change j f)) ≡ before d (at s (change j g))

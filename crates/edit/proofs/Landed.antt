@@ -5,12 +5,13 @@ use native.Mathlib.Nat.{zero-add, sub-zero}
 use native.Mathlib.Numerals.{add-one}
 use native.Mathlib.Omega.{arith}
 use mathlib.Core.Path.{_≡_, ap}
-use mathlib.Core.Bool.{Bool, true, false, _&&_, _||_}
+use mathlib.Core.Bool.{Bool, true, false, not, _&&_, _||_}
 use mathlib.Core.List.{List, [], _∷_, map}
 use lib.ListN.{length, getD, drop, drop-of-length-le}
 use lib.Seq.{drop-cons}
 use lib.Dec.{ltb, eqb}
 use Rattle.order.specs.Lists.{one}
+use Rattle.order.proofs.First.{first-le}
 use Rattle.model.specs.declared.Entry.{Entry}
 use Rattle.model.specs.Row.{key}
 use Rattle.model.specs.Layer.{Edit, Layer}
@@ -20,7 +21,6 @@ use Rattle.model.specs.Edits.{before}
 use Rattle.model.proofs.Raw.{edits-step, edits-end}
 use Rattle.model.proofs.Edits.{by-kinds}
 use Rattle.edit.specs.Landing.{aim, standsBefore, landing}
-use Rattle.edit.proofs.Splice.{first-le}
 
 -- the test by numbers is the order of the edits
 pub stands-is : (e : Entry) (s k v : ℕ) → standsBefore (e .pos) (e .kind) (getD (e .vals) 0 0) s k v ≡ before
@@ -55,7 +55,7 @@ begin c m xs e = rw (sub-zero, zero-add)
 
 pub landing-le : (e : Edit) (L : Layer) → landing e L ≤ length L
 unfolding landing
-landing-le e L = first-le before e L
+landing-le e L = first-le (λ d. not (before d e)) L
 
 -- The keys from number i on.
 module _ (k : ℕ) (keys : List ℕ) (i : ℕ) where

@@ -1,4 +1,3 @@
-pub mod Splice
 pub mod Landed
 pub mod Known
 pub mod Entering

@@ -11,6 +11,7 @@ use borrow.Author.Tests.{le-ltb, eqb-true}
 use Rattle.order.specs.Lists.{without}
 use Rattle.order.proofs.Tests.{and-r}
 use Rattle.order.proofs.Ascending.{At, at-mem, at-length}
+use Rattle.order.proofs.Splice.{without-at}
 use Rattle.model.specs.declared.Answer.{Answer}
 use Rattle.model.specs.declared.Answer.the-variants.{Done}
 use Rattle.model.specs.declared.Back.the-variants as backed
@@ -26,7 +27,6 @@ use Rattle.write.specs.Replaced.{replaced}
 use Rattle.write.proofs.Laws.{room-of}
 use Rattle.write.proofs.Layers.{spliced-length, replaced-edited, change-length, set-edited}
 use Rattle.edit.specs.Outcome.{countAnswer, Entered}
-use Rattle.edit.proofs.Splice.{without-at}
 use Rattle.edit.proofs.Known.{Known, stands}
 
 module _ (c m : ℕ) (raw K : List ℕ) (r : ℕ) (N : Known c m raw K) (h : r < rowsAfter (length K) (layerOf c m raw)) where

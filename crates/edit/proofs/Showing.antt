@@ -20,48 +20,31 @@ use lib.ListN.{length, getD, take, drop, take-append-drop}
 use lib.Dec.{ltb, eqb}
 use borrow.Author.Tests.{eqb-true, eq-eqb, ltb-true, not-true, ltb-false}
 use Rattle.order.specs.Lists.{count}
-use Rattle.order.proofs.Tests.{and-l, and-r, and-of, same-test, not-passed}
+use Rattle.order.proofs.Tests.{and-l, and-r, and-of, same-test, not-passed, eqb-sym}
 use Rattle.order.proofs.Members.{any-mem, any-of, map-mem, mem-map}
 use Rattle.order.proofs.Counts.{count-le}
 use Rattle.order.proofs.Pairs.{AllPairs}
 use Rattle.order.proofs.Ascending.{At, below, at-mem, at-count, at-length, getD-at, count-strict}
+use Rattle.order.proofs.Splice.{front, rest, drop-mem, pairs-drop}
 use Rattle.model.specs.declared.Entry.{Entry}
 use Rattle.model.specs.Row.{Row, Table, key, keys}
 use Rattle.model.specs.Cell.{to}
-use Rattle.model.specs.Layer.{Deed, add, strike, change, Edit, at, Layer, struck, changed}
+use Rattle.model.specs.Layer.{Deed, add, strike, change, Edit, at, Layer, strikesRow, struck, changed}
 use Rattle.model.specs.Raw.{ADD, STRIKE, entryAt, deedOf, editOf, layerOf}
 use Rattle.model.specs.Fit.{keysBelow}
 use Rattle.model.specs.Read.{read, keysAfter}
 use Rattle.model.specs.Refusals.{shownKey}
 use Rattle.model.specs.Edits.{deedBefore, before}
 use Rattle.model.proofs.Edits.{before-cases, before-lt, before-eq, before-trans, before-asym}
-use Rattle.model.proofs.Layer.{struck-of, of-struck, changed-key}
+use Rattle.model.proofs.Layer.{of-struck, changed-key}
 use Rattle.model.proofs.Read.{Shown, shown, shows-row, shows-add}
 use Rattle.model.proofs.Fit.{Fit, key-kept, key-of, below-keys}
 use Rattle.model.proofs.Column.{keys-read, singles, keys-singles, singles-length}
+use Rattle.model.proofs.Position.{addAt}
+use Rattle.form.proofs.Ahead.{strikes-kind}
 use Rattle.edit.specs.Landing.{aim, landing}
 use Rattle.edit.specs.Ready.{entryIs, numberIs}
-use Rattle.edit.proofs.Splice.{front, rest, drop-mem, pairs-drop}
-use Rattle.edit.proofs.Known.{
-  Known,
-  from-entry,
-  cons-head,
-  there,
-  head-is,
-  head-not,
-}
-
--- an add at p
-abbrev pub addAt : ℕ → Edit → Bool
-addAt p (at s (add r)) = eqb s p
-addAt p (at s (strike k)) = false
-addAt p (at s (change j e)) = false
-
--- a strike at p, by the entry's numbers
-abbrev pub strikeAt : ℕ → Edit → Bool
-strikeAt p (at s (add r)) = false
-strikeAt p (at s (strike k)) = eqb s p
-strikeAt p (at s (change j e)) = false
+use Rattle.edit.proofs.Known.{Known, from-entry, cons-head, there, head-is, head-not}
 
 module _ (E : Entry) (p : ℕ) where
   pub add-is : addAt p (editOf E) ≡ entryIs p ADD E
@@ -71,22 +54,9 @@ module _ (E : Entry) (p : ℕ) where
           (at (E .pos) (cond a (add (E .vals))
           (cond b (strike (getD (E .vals) 0 0)) (change (E .kind) (to (getD (E .vals) 0 0))))))
           ≡ (eqb (E .pos) p && a)
-      by true b = sym (and-true (eqb (E .pos) p))
+      by true b = eqb-sym p (E .pos) ∙ sym (and-true (eqb (E .pos) p))
       by false true = sym (and-false (eqb (E .pos) p))
       by false false = sym (and-false (eqb (E .pos) p))
-
-  pub strike-is : strikeAt p (editOf E) ≡ entryIs p STRIKE E
-  strike-is = by (eqb (E .kind) ADD) refl (eqb (E .kind) STRIKE) refl
-    where
-      by : (a : Bool) → eqb (E .kind) ADD ≡ a → (b : Bool) → eqb (E .kind) STRIKE ≡ b
-          → strikeAt p (at (E .pos)
-          (cond a (add (E .vals))
-          (cond b (strike (getD (E .vals) 0 0)) (change (E .kind) (to (getD (E .vals) 0 0))))))
-          ≡ (eqb (E .pos) p && b)
-      by true e true f = absurd (omega (arith, eqb-true (E .kind) ADD e, eqb-true (E .kind) STRIKE f))
-      by true e false f = sym (and-false (eqb (E .pos) p))
-      by false e true f = sym (and-true (eqb (E .pos) p))
-      by false e false f = sym (and-false (eqb (E .pos) p))
 
 -- the key of an added row says where it stands
 pub aim-add : (d : Edit) (p : ℕ) (r : Row) → before d (aim p ADD (key r)) ≡ before d (at p (add r))
@@ -250,7 +220,7 @@ module _ (c m : ℕ) (raw K : List ℕ) (N : Known c m raw K) (k : ℕ) where
       no-add : (s : ℕ) (q : Row) → Mem (at s (add q)) L → key q ≡ k → ⊥
       no-add s q n f =
           let w = is-first s q n f in
-          true≢false (sym (eq-eqb s p (add-stands s q n f)) ∙ (ap (addAt p) (w .3) ∙ none (w .0) (w .1) (w .2)))
+          true≢false (sym (eq-eqb p s (sym (add-stands s q n f))) ∙ (ap (addAt p) (w .3) ∙ none (w .0) (w .1) (w .2)))
 
       base-of : shownKey k (keysAfter K L) ≡ true → (p < length K) × (getD K p 0 ≡ k) × (struck p L ≡ false)
       base-of h = let w = row-of-shown h in by (w .0) (w .1) (w .2)
@@ -286,13 +256,10 @@ module _ (c m : ℕ) (raw K : List ℕ) (N : Known c m raw K) (k : ℕ) where
               and-of (eqb (getD K p 0) k) (not (struck p L)) (eq-eqb (getD K p 0) k (w .1)) (ap not (w .2))
 
       -- the strike of row p, if there is one, is the first of the others
-      pub struck-first : (x : Edit) (R : Layer) → drop i L ≡ x ∷ R → strikeAt p x ≡ true → struck p L ≡ true
-      struck-first (at s (add r)) R e h = absurd (true≢false (sym h))
-      struck-first (at s (strike l)) R e h =
-          struck-of p l L (rw (sym (eqb-true s p h)) (drop-mem i L (at s (strike l)) (rw e (here refl))))
-      struck-first (at s (change j g)) R e h = absurd (true≢false (sym h))
+      pub struck-first : (x : Edit) (R : Layer) → drop i L ≡ x ∷ R → strikesRow p x ≡ true → struck p L ≡ true
+      struck-first x R e h = any-of (strikesRow p) L x (drop-mem i L x (rw e (here refl))) h
 
-      pub first-struck : ((x : Edit) (R : Layer) → drop i L ≡ x ∷ R → strikeAt p x ≡ false) → struck p L ≡ false
+      pub first-struck : ((x : Edit) (R : Layer) → drop i L ≡ x ∷ R → strikesRow p x ≡ false) → struck p L ≡ false
       first-struck not-first = not-passed (struck p L) (λ h. let w = of-struck p L h in never (w .0) (w .1))
         where
           comes : (l : ℕ) → before (at p (strike l)) (aim p ADD k) ≡ false
@@ -307,14 +274,14 @@ module _ (c m : ℕ) (raw K : List ℕ) (N : Known c m raw K) (k : ℕ) where
               (λ g. only d (g .1) (none (at t d) R e) (g .0)) (before-cases t p d (strike l) h)
             where
               only : (d : Deed) → deedBefore d (strike l) ≡ true → addAt p (at t d) ≡ false → t ≡ p → ⊥
-              only (add r) g f q = true≢false (sym (eq-eqb t p q) ∙ f)
+              only (add r) g f q = true≢false (sym (eq-eqb p t (sym q)) ∙ f)
               only (strike y) g f q = true≢false (sym g)
               only (change j y) g f q = true≢false (sym g)
 
           never : (l : ℕ) → Mem (at p (strike l)) L → ⊥
           never l n =
               let w = first-or (at p (strike l)) (behind (at p (strike l)) n (comes l)) in
-              ⊎-elim (λ g. true≢false (sym (eq-eqb p p refl) ∙ (ap (strikeAt p) g ∙ not-first (w .0) (w .1) (w .2))))
+              ⊎-elim (λ g. true≢false (sym (eq-eqb p p refl) ∙ (ap (strikesRow p) g ∙ not-first (w .0) (w .1) (w .2))))
               (λ g. before-strike (w .0) (w .1) (w .2) l g) (w .3)
 
       pub shown-row : p < length K → (s : Bool) → struck p L ≡ s → eqb (getD K p 0) k && not s ≡ shownKey k
@@ -381,13 +348,12 @@ module _ (c m : ℕ) (raw K : List ℕ) (N : Known c m raw K) (k : ℕ) where
           by : (s : Bool) → s ≡ numberIs c m raw i (keysBelow k K) STRIKE → s ≡ struck (keysBelow k K) (layerOf c m raw)
           by true g =
               let u = sym g in
-              let is : (D : Entry) → strikeAt (keysBelow k K) (editOf D) ≡ entryIs (keysBelow k K) STRIKE D =
-              λ D. strike-is D (keysBelow k K) in
+              let is = strikes-kind (keysBelow k K) in
               sym (struck-first c m raw K N k i l none (editOf (entryAt c (i * (c + 2)) raw))
               (drop (i + 1) (layerOf c m raw))
-              (from-entry c m i raw (there c m i (keysBelow k K) STRIKE raw (strikeAt (keysBelow k K)) is u))
-              (head-is c m i (keysBelow k K) STRIKE raw (strikeAt (keysBelow k K)) is u))
+              (from-entry c m i raw (there c m i (keysBelow k K) STRIKE raw (strikesRow (keysBelow k K)) is u))
+              (head-is c m i (keysBelow k K) STRIKE raw (strikesRow (keysBelow k K)) is u))
           by false g =
               sym (first-struck c m raw K N k i l none
-              (head-not c m i (keysBelow k K) STRIKE raw (strikeAt (keysBelow k K)) (λ D. strike-is D (keysBelow k K))
+              (head-not c m i (keysBelow k K) STRIKE raw (strikesRow (keysBelow k K)) (strikes-kind (keysBelow k K))
               (sym g)))

@@ -12,15 +12,14 @@ use borrow.Author.Tests.{eq-eqb, ne-eqb, ltb-true}
 use Rattle.order.specs.Lists.{firstAt}
 use Rattle.order.proofs.Tests.{tests, not-passed}
 use Rattle.order.proofs.Pairs.{AllPairs}
+use Rattle.order.proofs.Splice.{drop-mem, take-mem, part, front, rest, splice}
 use Rattle.model.specs.Row.{key}
 use Rattle.model.specs.Layer.{Deed, add, strike, change, Edit, at, Layer, position, struck, changesRow}
 use Rattle.model.specs.Raw.{ADD, STRIKE}
 use Rattle.model.specs.Edits.{deedBefore, before, strikeBase}
 use Rattle.model.proofs.Edits.{before-cases, before-lt, before-trans, before-eq}
 use Rattle.model.proofs.Layer.{struck-of}
-use Rattle.write.proofs.Layers.{take-mem, part}
 use Rattle.edit.specs.Landing.{aim, landing}
-use Rattle.edit.proofs.Splice.{drop-mem, front, rest, splice}
 
 -- a strike stands where its position puts it, whatever its key
 same-strike : (d : Edit) (s k l : ℕ) → before d (at s (strike k)) ≡ before d (at s (strike l))

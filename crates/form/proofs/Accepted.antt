@@ -4,29 +4,28 @@ use Prim.Native.Nat.{ℕ, _+_, _*_, _≤_}
 use native.Mathlib.Omega.{arith}
 use mathlib.Core.Path.{_≡_, refl, sym, ap, _∙_}
 use mathlib.Core.Bool.{Bool, true, false, not, cond, _&&_}
-use mathlib.Core.List.{List, [], _∷_, List·Memᴰ as Mem, List·Memᴰ·not-nil as not-nil}
+use mathlib.Core.List.{List, [], _∷_, List·Memᴰ as Mem}
 use lib.ListN.{length, take}
 use lib.Dec.{ltb, leb}
-use borrow.Author.Tests.{ltb-false, le-ltb, le-leb, eqb-true, eq-eqb}
-use Rattle.order.specs.Lists.{count, ascending, leastBroken}
+use borrow.Author.Tests.{ltb-false, le-ltb, le-leb, eqb-true}
+use Rattle.order.specs.Lists.{count, ascending}
 use Rattle.order.proofs.Tests.{and-of, or-false}
 use Rattle.order.proofs.Members.{mem-map}
-use Rattle.order.proofs.Pairs.{AllPairs, pairs-unmap, of-unbroken}
+use Rattle.order.proofs.Pairs.{AllPairs, pairs-unmap, none-broken}
 use Rattle.model.specs.declared.Entry.{Entry}
 use Rattle.model.specs.declared.Refusal.{Refusal}
-use Rattle.model.specs.declared.Answer.{Answer}
 use Rattle.model.specs.declared.Answer.the-variants.{Done, Refused}
-use Rattle.model.specs.Layer.{Edit, Layer, isStrike, rowsAfter}
+use Rattle.model.specs.Layer.{Edit, isStrike, rowsAfter}
 use Rattle.model.specs.Raw.{Held, entriesOf, editOf, layerOf, flat}
 use Rattle.model.specs.Form.{zeros, sound, follows, formPlace, inOrder, keepsForm, argsOk}
 use Rattle.model.specs.Fit.{fitPlace, fits}
 use Rattle.model.specs.Refusals.{refusal, firstMet, badKeys, badFit, breaksForm}
 use Rattle.model.specs.Calls.{formAnswer, fitAnswer}
 use Rattle.model.proofs.Raw.{entries-length, layer-length, form-place, args-held}
-use Rattle.model.proofs.Fit.{fits-all}
+use Rattle.model.proofs.Fit.{in-order, fits-all}
 use Rattle.form.specs.InForm.{InForm}
 use Rattle.form.proofs.Formed.{Formed, Whole, whole, strikes-few}
-use Rattle.form.proofs.Answers.{onward, after-form, fit-accepted}
+use Rattle.form.proofs.Answers.{after-form, reached, fit-accepted}
 use Rattle.form.proofs.Flat.{flat-entries}
 
 pub record Accepted (c n m : ℕ) (xs : List ℕ) (rows : ℕ) : Type 0 where
@@ -46,16 +45,6 @@ pub record Accepted (c n m : ℕ) (xs : List ℕ) (rows : ℕ) : Type 0 where
   -- its entries have their zeros, so written out it is what it was read from
   pub zeroed : (e : Entry) → Mem e (entriesOf c m xs) → zeros e ≡ true
   pub numbers : flat c (layerOf c m xs) ≡ take (m * (c + 2)) xs
-
--- the edits keep order by the test too
-in-order : (c n : ℕ) (L : Layer) → Formed c n L → inOrder c n L ≡ true
-unfolding inOrder
-in-order c n L F =
-    eq-eqb (leastBroken (sound c n) follows [] L) (length L) (of-unbroken (sound c n) follows [] L (record {
-      each = F .each;
-      past = λ y x k m. absurd (not-nil k);
-      pairs = F .pairs;
-    }))
 
 -- neither refusal is met
 passed : (a b : Bool) (x y : Refusal) {r k : ℕ} → cond (not a) (Refused x) (cond b (Refused y) (Done r)) ≡ Done k
@@ -98,6 +87,9 @@ module _ (c n m : ℕ) (xs : List ℕ) (rows : ℕ) (h : formAnswer c n m xs ≡
   total : rowsAfter n (layerOf c m xs) ≤ 4096
   total = ltb-false 4096 (rowsAfter n (layerOf c m xs)) (kept .1)
 
+  ordered : inOrder c n (layerOf c m xs) ≡ true
+  ordered = in-order c n (layerOf c m xs) (formed .each) (formed .pairs)
+
   pub accepted : Accepted c n m xs rows
   accepted =
       let a = args-held c n m xs (done .0) in
@@ -108,9 +100,9 @@ module _ (c n m : ℕ) (xs : List ℕ) (rows : ℕ) (h : formAnswer c n m xs ≡
         few = omega (arith, total, done .2);
         each = formed .each;
         pairs = formed .pairs;
-        ordered = in-order c n (layerOf c m xs) formed;
+        ordered = ordered;
         kept = and-of (inOrder c n (layerOf c m xs)) (leb (rowsAfter n (layerOf c m xs)) 4096)
-            (in-order c n (layerOf c m xs) formed) (le-leb (rowsAfter n (layerOf c m xs)) 4096 total);
+            ordered (le-leb (rowsAfter n (layerOf c m xs)) 4096 total);
         strikes = strikes-few c n (layerOf c m xs) formed;
         size = layer-length c m xs;
         zeroed = good .zeroed;
@@ -141,13 +133,10 @@ module _ (c n m : ℕ) (xs : List ℕ) (held : Held c m xs) (base : n ≤ 4096)
   none-at-fault : formPlace c n (entriesOf c m xs) ≡ m
   unfolding formPlace layerOf
   none-at-fault =
-      of-unbroken (λ e. zeros e && sound c n (editOf e)) (λ d e. follows (editOf d) (editOf e)) [] (entriesOf c m xs)
-      (record {
-        each = λ e k. and-of (zeros e) (sound c n (editOf e)) (zeroed e k)
-            (each (editOf e) (mem-map editOf (entriesOf c m xs) e k));
-        past = λ d e k l. absurd (not-nil k);
-        pairs = pairs-unmap follows editOf (entriesOf c m xs) pairs;
-      })
+      none-broken (λ e. zeros e && sound c n (editOf e)) (λ d e. follows (editOf d) (editOf e)) (entriesOf c m xs)
+      (λ e k. and-of (zeros e) (sound c n (editOf e)) (zeroed e k)
+      (each (editOf e) (mem-map editOf (entriesOf c m xs) e k)))
+      (pairs-unmap follows editOf (entriesOf c m xs) pairs)
       ∙ entries-length c m 0 xs
 
   pub accepts-form : InForm c n m xs
@@ -164,14 +153,10 @@ pub record Fitted (c m : ℕ) (xs K : List ℕ) : Type 0 where
 
 module _ (c m : ℕ) (xs K : List ℕ) {k : ℕ} (h : fitAnswer c m xs K ≡ Done k) where
   -- the form is accepted, and then neither refusal is met
-  form-first : (r : Answer) {z : Answer} → onward Refused r z ≡ Done k → (rows : ℕ) × (r ≡ Done rows) × (z ≡ Done k)
-  form-first (Done rows) e = (rows, refl, e)
-  form-first (Refused x) e = absurd (let z : _≡_ {A = ℕ} 0 1 = cc in omega arith)
-
   fit-done : (rows : ℕ) × (formAnswer c (length K) m xs ≡ Done rows)
       × (firstMet Refused (badKeys K ∷ badFit 0 K (layerOf c m xs) ∷ []) (Done 0) ≡ Done k)
   unfolding fitAnswer
-  fit-done = form-first (formAnswer c (length K) m xs)
+  fit-done = reached (formAnswer c (length K) m xs)
       (sym (after-form Refused c (length K) m xs (badKeys K ∷ badFit 0 K (layerOf c m xs) ∷ []) (Done 0)) ∙ h)
 
   neither : (ascending K ≡ true) × (ltb (fitPlace K (layerOf c m xs)) (length (layerOf c m xs)) ≡ false)

@@ -20,28 +20,30 @@ use lib.ListN.{length, getD}
 use lib.Dec.{leb, ltb, eqb}
 use borrow.Author.Tests.{eqb-false, ne-eqb}
 use Rattle.order.specs.Lists.{any}
-use Rattle.order.proofs.Tests.{eqb-sym, lex-cases}
+use Rattle.order.proofs.Tests.{eqb-sym}
 use Rattle.order.proofs.Members.{any-none, mem-map}
-use Rattle.order.proofs.Pairs.{AllPairs, Unbroken}
+use Rattle.order.proofs.Pairs.{AllPairs, Unbroken, unbroken-next}
+use Rattle.order.proofs.Neighbours.{leastAfter, from-start}
 use Rattle.model.specs.declared.Entry.{Entry}
 use Rattle.model.specs.Row.{Row, key}
 use Rattle.model.specs.Cell.{CellEdit, to}
 use Rattle.model.specs.Layer.{add, strike, change, Edit, at, Layer, position, strikesRow, struck}
 use Rattle.model.specs.Raw.{ADD, STRIKE, none, editOf}
-use Rattle.model.specs.Form.{sound, after, follows}
+use Rattle.model.specs.Form.{sound, follows}
 use Rattle.model.specs.Fit.{above, suits, keysRise, rises, fitPlace}
+use Rattle.model.proofs.Layer.{struck-none}
+use Rattle.model.proofs.Position.{follows-pos as not-below}
 use Rattle.model.proofs.Edits.{before-of, before-rises, before-trans}
 use Rattle.form.specs.Suit.{first, struckAhead, underAhead, suitsAhead, risesKind, fitFrom}
 use Rattle.form.proofs.ByKind.{editBy, one-kind}
-use Rattle.form.proofs.Neighbours.{leastAfter, unbroken-next, from-start}
 use Rattle.form.proofs.Formed.{Formed, past-strike}
 
 -- positions never fall
 follows-pos : (d e : Edit) → follows d e ≡ true → position d ≤ position e
-follows-pos (at p d) (at s e) h = ⊎-elim (λ l. omega arith) (λ w. omega (arith, w .0)) (lex-cases p s (after d e) h)
+follows-pos (at p d) (at s e) h = not-below p s d e h
 
 -- An entry strikes row s where it stands at s and is a strike.
-strikes-kind : (s : ℕ) (e : Entry) → strikesRow s (editOf e) ≡ (eqb (e .pos) s && eqb (e .kind) STRIKE)
+pub strikes-kind : (s : ℕ) (e : Entry) → strikesRow s (editOf e) ≡ (eqb (e .pos) s && eqb (e .kind) STRIKE)
 strikes-kind s e = by (eqb (e .kind) ADD) (eqb (e .kind) STRIKE) refl refl
   where
     by : (a b : Bool) → eqb (e .kind) ADD ≡ a → eqb (e .kind) STRIKE ≡ b
@@ -53,12 +55,7 @@ strikes-kind s e = by (eqb (e .kind) ADD) (eqb (e .kind) STRIKE) refl refl
 
 -- past the entries at s nothing strikes row s
 nowhere : (s : ℕ) (L : Layer) → ((e : Edit) → Mem e L → s < position e) → any (strikesRow s) L ≡ false
-nowhere s L h = any-none (strikesRow s) L each
-  where
-    each : (e : Edit) → Mem e L → strikesRow s e ≡ false
-    each (at p (add r)) m = refl
-    each (at p (strike k)) m = ne-eqb s p (λ g. omega (arith, h (at p (strike k)) m))
-    each (at p (change j u)) m = refl
+nowhere s L h = struck-none s L (λ p k m g. omega (arith, h (at p (strike k)) m))
 
 ahead : (s : ℕ) (es : List Entry) → AllPairs follows (map editOf es) → ((e : Entry) → Mem e es → s ≤ e .pos)
     → any (strikesRow s) (map editOf es) ≡ struckAhead s es

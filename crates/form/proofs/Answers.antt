@@ -2,6 +2,7 @@
 -- Assumes nothing.
 use Prim.Native.Nat.{ℕ, _+_, _≤_, _<_}
 use native.Mathlib.Nat.{zero-add}
+use native.Mathlib.Omega.{arith}
 use mathlib.Core.Path.{_≡_, refl, sym, ap, _∙_}
 use mathlib.Core.Bool.{Bool, true, false, not, cond}
 use mathlib.Core.List.{List, [], _∷_}
@@ -70,6 +71,11 @@ module _ {A : Type 0} (refused : Refusal → A) where
       by true false false e x y = refl
       by true false true true x y = refl
       by true false true false x y = refl
+
+-- a call that is accepted has gone on
+pub reached : (a : Answer) {z : Answer} {k : ℕ} → onward Refused a z ≡ Done k → (rows : ℕ) × (a ≡ Done rows) × (z ≡ Done k)
+reached (Done rows) e = (rows, refl, e)
+reached (Refused x) e = absurd (let z : _≡_ {A = ℕ} 0 1 = cc in omega arith)
 
 -- a later row that is the form check of another layer, whose arguments have passed
 pub form-row : {A : Type 0} (refused : Refusal → A) (more c n m : ℕ) (xs : List ℕ) (tests : List Test) (z : A)

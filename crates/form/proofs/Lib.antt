@@ -1,7 +1,6 @@
 pub mod ByKind
 pub mod Laws
 pub mod Scanning
-pub mod Neighbours
 pub mod Place
 pub mod Formed
 pub mod Flat

@@ -3,7 +3,17 @@
 use mathlib.Core.Path.{_≡_, refl, sym, ap, _∙_}
 use mathlib.Core.Logic.{inl, inr}
 use mathlib.Core.Bool.{Bool, true, false, cond, _&&_}
-use mathlib.Core.List.{List, [], _∷_, _++_, map, List·Memᴰ as Mem, List·Memᴰ·head as here, List·Memᴰ·tail as next}
+use mathlib.Core.List.{
+  List,
+  [],
+  _∷_,
+  _++_,
+  map,
+  map-append,
+  List·Memᴰ as Mem,
+  List·Memᴰ·head as here,
+  List·Memᴰ·tail as next,
+}
 use Prim.Native.Nat.{ℕ, suc, _<_}
 use native.Mathlib.Omega.{arith}
 use lib.ListN.{length, length-map}
@@ -21,10 +31,6 @@ use Rattle.model.proofs.Read.{Shown, shown}
 use Rattle.model.proofs.Fit.{Good}
 
 module _ {A B : Type 0} where
-  map-append : (f : A → B) (xs ys : List A) → map f (xs ++ ys) ≡ map f xs ++ map f ys
-  map-append f [] ys = refl
-  map-append f (x ∷ xs) ys = ap (λ (t : List B). f x ∷ t) (map-append f xs ys)
-
   pub map-unless : (f : A → B) (t : Bool) (x : A) → map f (unless t x) ≡ unless t (f x)
   map-unless f true x = refl
   map-unless f false x = refl

@@ -1,19 +1,17 @@
 -- Conflict is met exactly on the demand's three cases, is the same either way round, and where it is not met the two layers keep apart.
 -- Assumes nothing.
 use mathlib.Core.Path.{_≡_, refl, sym, ap, _∙_}
-use mathlib.Core.Logic.{_⊎_, inl, inr, ⊎-elim}
+use mathlib.Core.Logic.{_⊎_, inl, inr}
 use mathlib.Core.Bool.{Bool, true, false, not, cond, _&&_, _||_, true≢false}
-use mathlib.Core.List.{List, [], _∷_, List·Memᴰ as Mem, Memᴰ·cast as mem-cast}
-use Prim.Native.Nat.{ℕ, _≤_, _<_}
-use native.Mathlib.Omega.{arith}
+use mathlib.Core.List.{List·Memᴰ as Mem, Memᴰ·cast as mem-cast}
+use Prim.Native.Nat.{ℕ}
 use lib.Dec.{eqb}
-use borrow.Author.Tests.{eqb-true, eqb-false, eq-eqb, ne-eqb, not-true}
-use Rattle.order.specs.Lists.{any}
-use Rattle.order.proofs.Tests.{and-l, and-r, and-of, or-cases, or-l, or-r, eqb-sym, not-passed, same-test}
-use Rattle.order.proofs.Members.{any-mem, any-of, any-none, none-any}
+use borrow.Author.Tests.{eqb-true, eq-eqb, not-true}
+use Rattle.order.proofs.Tests.{and-l, and-r, or-cases, or-l, or-r, eqb-sym, not-passed, same-test}
+use Rattle.order.proofs.Members.{any-mem, any-of, none-any}
 use Rattle.model.specs.Row.{Row, key}
 use Rattle.model.specs.Cell.{CellEdit, to, agree}
-use Rattle.model.specs.Layer.{Deed, add, strike, change, Edit, at, Layer, struck, changesRow}
+use Rattle.model.specs.Layer.{add, strike, change, Edit, at, Layer, struck, changesRow}
 use Rattle.model.specs.Conflict.{Rule, none, struckRow, sameCell, sameKey, clash, met, clashesWith, conflict}
 use Rattle.model.specs.Demand.{
   rowChanged,
@@ -25,12 +23,13 @@ use Rattle.model.specs.Demand.{
   bothChange,
   bothAdd,
 }
-use Rattle.model.proofs.Layer.{of-struck, struck-of, struck-none, Trade}
+use Rattle.model.proofs.Layer.{of-struck, struck-of, Trade}
 
 -- a rule that a test chooses
-met-cond : (t : Bool) (r : Rule) → met r ≡ true → met (cond t r none) ≡ t
-met-cond true r h = h
-met-cond false r h = refl
+-- a rule that is met where a test passes: where it is met, the test passes
+pub met-test : (t : Bool) (r : Rule) → met (cond t r none) ≡ true → t ≡ true
+met-test true r h = refl
+met-test false r h = h
 
 -- conflict by members
 pub conflict-of : (X Y : Layer) (e f : Edit) → Mem e X → Mem f Y → met (clash e f) ≡ true → conflict X Y ≡ true
@@ -96,31 +95,31 @@ added-of k s r L m h = any-of (addsKey k) L (at s (add r)) m (eq-eqb k (key r) h
 -- two edits that meet a rule are one of the demand's cases
 case-of : (X Y : Layer) (e f : Edit) → Mem e X → Mem f Y → met (clash e f) ≡ true → Conflicting X Y
 case-of X Y (at p (add q)) (at s (add r)) m n h =
-    let k : key q ≡ key r = eqb-true (key q) (key r) (sym (met-cond (eqb (key q) (key r)) sameKey refl) ∙ h) in
+    let k : key q ≡ key r = eqb-true (key q) (key r) (met-test (eqb (key q) (key r)) sameKey h) in
     bothAdd (key q) (added-of (key q) p q X m refl) (added-of (key q) s r Y n k)
 case-of X Y (at p (add q)) (at s (strike k)) m n h = absurd (true≢false (sym h))
 case-of X Y (at p (add q)) (at s (change j e)) m n h = absurd (true≢false (sym h))
 case-of X Y (at p (strike l)) (at s (add r)) m n h = absurd (true≢false (sym h))
 case-of X Y (at p (strike l)) (at s (strike k)) m n h =
-    let ps : p ≡ s = eqb-true p s (sym (met-cond (eqb p s) struckRow refl) ∙ h) in
+    let ps : p ≡ s = eqb-true p s (met-test (eqb p s) struckRow h) in
     mineStrikes s (rw (← ps) (struck-of p l X m)) (or-l (struck s Y) (rowChanged s Y) (struck-of s k Y n))
 case-of X Y (at p (strike l)) (at s (change j e)) m n h =
-    let ps : p ≡ s = eqb-true p s (sym (met-cond (eqb p s) struckRow refl) ∙ h) in
+    let ps : p ≡ s = eqb-true p s (met-test (eqb p s) struckRow h) in
     mineStrikes s (rw (← ps) (struck-of p l X m)) (or-r (struck s Y) (rowChanged s Y) (changed-of s j e Y n))
 case-of X Y (at p (change i f)) (at s (add r)) m n h = absurd (true≢false (sym h))
 case-of X Y (at p (change i f)) (at s (strike k)) m n h =
-    let ps : p ≡ s = eqb-true p s (sym (met-cond (eqb p s) struckRow refl) ∙ h) in
+    let ps : p ≡ s = eqb-true p s (met-test (eqb p s) struckRow h) in
     theirsStrikes s (struck-of s k Y n) (or-r (struck s X) (rowChanged s X) (rw (← ps) (changed-of p i f X m)))
 case-of X Y (at p (change i f)) (at s (change j e)) m n h =
-    let t = sym (met-cond (eqb p s && (eqb i j && not (agree f e))) sameCell refl) ∙ h in
+    let t = met-test (eqb p s && (eqb i j && not (agree f e))) sameCell h in
     let u = and-r (eqb p s) (eqb i j && not (agree f e)) t in
     let ps : p ≡ s = eqb-true p s (and-l (eqb p s) (eqb i j && not (agree f e)) t) in
     let ij : i ≡ j = eqb-true i j (and-l (eqb i j) (not (agree f e)) u) in
     bothChange s j f e (mem-cast {b = at p (change i f)} (cc) m) n (not-true (agree f e) (and-r (eqb i j) (not (agree f e)) u))
 
--- and each case is two edits that meet a rule
-pub of-conflicting : (X Y : Layer) → Conflicting X Y → conflict X Y ≡ true
-of-conflicting X Y (mineStrikes s h t) = go (or-cases (struck s Y) (rowChanged s Y) t)
+-- a struck row that is struck or changed
+struck-met : (X Y : Layer) (s : ℕ) → struck s X ≡ true → struck s Y || rowChanged s Y ≡ true → conflict X Y ≡ true
+struck-met X Y s h t = go (or-cases (struck s Y) (rowChanged s Y) t)
   where
     mine : (k : ℕ) × Mem (at s (strike k)) X
     mine = of-struck s X h
@@ -132,18 +131,11 @@ of-conflicting X Y (mineStrikes s h t) = go (or-cases (struck s Y) (rowChanged s
     go (inr g) =
         let w = of-changed s Y g in
         conflict-of X Y (at s (strike (mine .0))) (at s (change (w .0) (w .1))) (mine .1) (w .2) (rw (eq-eqb s s refl))
-of-conflicting X Y (theirsStrikes s h t) = go (or-cases (struck s X) (rowChanged s X) t)
-  where
-    theirs : (k : ℕ) × Mem (at s (strike k)) Y
-    theirs = of-struck s Y h
 
-    go : (struck s X ≡ true) ⊎ (rowChanged s X ≡ true) → conflict X Y ≡ true
-    go (inl g) =
-        let w = of-struck s X g in
-        conflict-of X Y (at s (strike (w .0))) (at s (strike (theirs .0))) (w .1) (theirs .1) (rw (eq-eqb s s refl))
-    go (inr g) =
-        let w = of-changed s X g in
-        conflict-of X Y (at s (change (w .0) (w .1))) (at s (strike (theirs .0))) (w .2) (theirs .1) (rw (eq-eqb s s refl))
+-- and each case is two edits that meet a rule
+pub of-conflicting : (X Y : Layer) → Conflicting X Y → conflict X Y ≡ true
+of-conflicting X Y (mineStrikes s h t) = struck-met X Y s h t
+of-conflicting X Y (theirsStrikes s h t) = turned Y X (struck-met Y X s h t)
 of-conflicting X Y (bothChange s j e f m n h) =
     conflict-of X Y (at s (change j e)) (at s (change j f)) m n (rw (eq-eqb s s refl, eq-eqb j j refl, h))
 of-conflicting X Y (bothAdd k h t) =

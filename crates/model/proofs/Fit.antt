@@ -1,38 +1,24 @@
 -- A layer that keeps form and fits a table, as facts about its edits; the tests of the paper say just these facts.
 -- Assumes nothing.
 use mathlib.Core.Path.{_≡_, refl, sym, ap, _∙_, subst}
-use mathlib.Core.Logic.{_⊎_, inl, inr, ⊎-elim}
-use mathlib.Core.Bool.{Bool, true, false, not, cond, _&&_, _||_, true≢false}
-use mathlib.Core.List.{List, [], _∷_, map, List·Memᴰ as Mem, List·Memᴰ·head as here, List·Memᴰ·tail as next}
-use Prim.Native.Nat.{ℕ, zero, suc, _+_, _≤_, _<_}
+use mathlib.Core.Logic.{_⊎_, inl, inr}
+use mathlib.Core.Bool.{Bool, true, false, _&&_, _||_}
+use mathlib.Core.List.{List, [], List·Memᴰ as Mem}
+use Prim.Native.Nat.{ℕ, zero, suc, _≤_, _<_}
 use native.Mathlib.Omega.{arith}
 use lib.ListN.{length, getD, length-map, List·getD-map}
 use lib.Dec.{leb, ltb, eqb}
-use borrow.Author.Tests.{
-  ltb-true,
-  ltb-false,
-  lt-ltb,
-  le-ltb,
-  leb-true,
-  leb-false,
-  le-leb,
-  lt-leb,
-  eqb-true,
-  eqb-false,
-  eq-eqb,
-  ne-eqb,
-}
+use borrow.Author.Tests.{ltb-true, ltb-false, lt-ltb, leb-true, leb-false, lt-leb, eqb-true, eq-eqb}
 use Rattle.order.specs.Lists.{count, leastBroken}
-use Rattle.order.proofs.Tests.{tests, and-l, and-r, and-of, or-cases, or-l, or-r}
+use Rattle.order.proofs.Tests.{tests, and-l, and-r, and-of, or-cases}
 use Rattle.order.proofs.Counts.{count-le, count-map}
-use Rattle.order.proofs.Pairs.{AllPairs, pairs-both, pairs-weaker, Unbroken, broken-le, unbroken, of-unbroken}
+use Rattle.order.proofs.Pairs.{AllPairs, pairs-both, pairs-weaker, Unbroken, broken-le, unbroken, none-broken}
 use Rattle.order.proofs.Ascending.{
   AscFrom,
   At,
   below,
   at-mem,
   at-cast,
-  at-same,
   at-length,
   at-count,
   getD-at,
@@ -41,17 +27,21 @@ use Rattle.order.proofs.Ascending.{
   count-mono,
   count-strict,
   count-rise,
-  asc-same,
 }
 use Rattle.model.specs.Row.{Row, Table, key, keys}
 use Rattle.model.specs.Cell.{CellEdit}
-use Rattle.model.specs.Layer.{Deed, add, strike, change, Edit, at, Layer, struck}
+use Rattle.model.specs.Layer.{add, strike, change, Edit, at, Layer, struck}
 use Rattle.model.specs.Form.{sound, follows, inOrder}
 use Rattle.model.specs.Fit.{above, under, suits, rises, fitPlace, fits, keysBelow}
 use Rattle.model.specs.Edits.{before}
 use Rattle.model.proofs.Cell.{key-nil}
 use Rattle.model.proofs.Layer.{KeyKept}
 use Rattle.model.proofs.Edits.{before-of, before-follows, before-rises}
+
+-- edits that are sound, and follow one another, are in order
+pub in-order : (c n : ℕ) (L : Layer) → ((e : Edit) → Mem e L → sound c n e ≡ true) → AllPairs follows L → inOrder c n L ≡ true
+unfolding inOrder
+in-order c n L e p = eq-eqb (leastBroken (sound c n) follows [] L) (length L) (none-broken (sound c n) follows L e p)
 
 -- a layer fits where the place of the first entry that does not is no entry's
 pub fits-all : (K : List ℕ) (L : Layer) → ltb (fitPlace K L) (length L) ≡ false → fits K L ≡ true
@@ -179,12 +169,8 @@ module _ (c : ℕ) (T : Table) (L : Layer) (a : AscFrom key 0 T) (fm : inOrder c
 -- and the facts say the tests
 module _ (c : ℕ) (T : Table) (L : Layer) (a : AscFrom key 0 T) (G : Good c T L) where
   pub good-form : inOrder c (length T) L ≡ true
-  unfolding inOrder
-  good-form = eq-eqb (leastBroken (sound c (length T)) follows [] L) (length L) (of-unbroken (sound c (length T)) follows [] L (record {
-    each = G .each;
-    past = λ y x n m. absurd (elim n [ ]);
-    pairs = pairs-weaker before follows L (λ d e m n h. before-follows d e h) (G .fit .sorted);
-  }))
+  good-form =
+      in-order c (length T) L (G .each) (pairs-weaker before follows L (λ d e m n h. before-follows d e h) (G .fit .sorted))
 
   above-of : (s k : ℕ) → count (below key k) T ≡ s → above (keys T) s k ≡ true
   above-of zero k e = refl
@@ -216,11 +202,9 @@ module _ (c : ℕ) (T : Table) (L : Layer) (a : AscFrom key 0 T) (G : Good c T L
 
   pub good-fits : fits (keys T) L ≡ true
   unfolding fits fitPlace
-  good-fits = eq-eqb (leastBroken (suits (keys T) L) rises [] L) (length L) (of-unbroken (suits (keys T) L) rises [] L (record {
-    each = each;
-    past = λ y x n m. absurd (elim n [ ]);
-    pairs = pairs-weaker before rises L (λ d e m n h. before-rises d e h) (G .fit .sorted);
-  }))
+  good-fits =
+      eq-eqb (leastBroken (suits (keys T) L) rises [] L) (length L) (none-broken (suits (keys T) L) rises L each
+      (pairs-weaker before rises L (λ d e m n h. before-rises d e h) (G .fit .sorted)))
     where
       each : (e : Edit) → Mem e L → suits (keys T) L e ≡ true
       each (at s (add r)) m =

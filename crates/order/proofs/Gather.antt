@@ -1,7 +1,7 @@
 -- What is gathered from a list with one element more, one less, or some left out; and doing what is gathered in turn.
 -- Assumes nothing.
 use mathlib.Core.Path.{_≡_, refl, sym, ap, _∙_}
-use mathlib.Core.Logic.{_⊎_, inl, inr, ⊎-elim}
+use mathlib.Core.Logic.{_⊎_, ⊎-elim}
 use mathlib.Core.Bool.{Bool, true, false, cond, true≢false}
 use mathlib.Core.List.{
   List,
@@ -9,21 +9,19 @@ use mathlib.Core.List.{
   _∷_,
   _++_,
   map,
-  append-assoc,
+  map-append,
   List·Memᴰ as Mem,
   List·Memᴰ·head as here,
   List·Memᴰ·tail as next,
-  List·Memᴰ·not-nil as not-nil,
   List·Memᴰ·append-cases as append-cases,
 }
-use Prim.Native.Nat.{ℕ, zero, suc, _≤_}
+use Prim.Native.Nat.{ℕ, zero, suc}
 use lib.ListN.{set}
-use native.Mathlib.Omega.{arith}
 use Rattle.order.specs.Lists.{filter, insert, without, gather, inTurn}
 use Rattle.order.proofs.Tests.{not-passed}
 use Rattle.order.proofs.Members.{gather-mem}
 use Rattle.order.proofs.Pairs.{AllPairs}
-use Rattle.order.proofs.Ascending.{At, top, deep}
+use Rattle.order.proofs.Ascending.{At}
 use Rattle.order.proofs.Edited.{at-head, at-tail}
 
 module _ {A B : Type 0} (f : A → List B) where
@@ -130,11 +128,8 @@ module _ {A B : Type 0} (f : A → List B) where
   -- what is gathered, mapped
   pub map-gather : {C : Type 0} (g : B → C) (xs : List A) → map g (gather f xs) ≡ gather (λ x. map g (f x)) xs
   map-gather g [] = refl
-  map-gather {C} g (x ∷ xs) = split (f x) ∙ ap (λ (t : List C). map g (f x) ++ t) (map-gather g xs)
-    where
-      split : (ys : List B) → map g (ys ++ gather f xs) ≡ map g ys ++ map g (gather f xs)
-      split [] = refl
-      split (y ∷ ys) = ap (λ (t : List C). g y ∷ t) (split ys)
+  map-gather {C} g (x ∷ xs) =
+      map-append g (f x) (gather f xs) ∙ ap (λ (t : List C). map g (f x) ++ t) (map-gather g xs)
 
 -- what is gathered, done in turn
 module _ {B C : Type 0} where

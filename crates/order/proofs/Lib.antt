@@ -5,3 +5,6 @@ pub mod Pairs
 pub mod Ascending
 pub mod Edited
 pub mod Gather
+pub mod Neighbours
+pub mod First
+pub mod Splice

@@ -2,7 +2,7 @@
 -- Assumes nothing.
 use mathlib.Core.Path.{_≡_, refl, sym, ap, _∙_}
 use mathlib.Core.Logic.{_⊎_, inl, inr, ⊎-elim}
-use mathlib.Core.Bool.{Bool, true, false, cond, _&&_, true≢false}
+use mathlib.Core.Bool.{Bool, true, false, cond, _&&_}
 use mathlib.Core.List.{
   List,
   [],
@@ -14,7 +14,7 @@ use mathlib.Core.List.{
   List·Memᴰ·not-nil as not-nil,
   List·Memᴰ·cases-cons as cases-cons,
 }
-use Prim.Native.Nat.{ℕ, zero, suc, _+_, _≤_, _<_}
+use Prim.Native.Nat.{suc, _≤_}
 use native.Mathlib.Omega.{arith}
 use lib.ListN.{length}
 use Rattle.order.specs.Lists.{all, filter, insert, leastBroken}
@@ -151,20 +151,28 @@ module _ {A : Type 0} where
             pairs = (λ y m. U .past x y (here refl) m, U .pairs);
           }
 
+  -- then none does with the first among the earlier ones
+  pub unbroken-next : {alone : A → Bool} {pair : A → A → Bool} {earlier : List A} (x : A) {xs : List A}
+      → Unbroken alone pair earlier (x ∷ xs) → Unbroken alone pair (x ∷ earlier) xs
+  unbroken-next {pair = pair} x U = record {
+    each = λ z m. U .each z (next m);
+    past = λ y z n m. ⊎-elim (λ g. ap (λ (w : A). pair w z) g ∙ U .pairs .0 z m) (λ k. U .past y z k (next m)) (cases-cons n);
+    pairs = U .pairs .1;
+  }
+
   pub of-unbroken : (alone : A → Bool) (pair : A → A → Bool) (earlier xs : List A) → Unbroken alone pair earlier xs
       → leastBroken alone pair earlier xs ≡ length xs
   of-unbroken alone pair earlier [] U = refl
   of-unbroken alone pair earlier (x ∷ xs) U =
       rw (and-of (alone x) (all (λ y. pair y x) earlier) (U .each x (here refl))
       (all-of (λ y. pair y x) earlier (λ y n. U .past y x n (here refl))))
-      (ap suc (of-unbroken alone pair (x ∷ earlier) xs rest))
-    where
-      rest : Unbroken alone pair (x ∷ earlier) xs
-      rest = record {
-        each = λ z m. U .each z (next m);
-        past = λ y z n m. ⊎-elim (λ g. ap (λ (w : A). pair w z) g ∙ U .pairs .0 z m) (λ k. U .past y z k (next m)) (cases-cons n);
-        pairs = U .pairs .1;
-      }
+      (ap suc (of-unbroken alone pair (x ∷ earlier) xs (unbroken-next x U)))
+
+  -- where nothing stands earlier, each alone and all in pairs say it
+  pub none-broken : (alone : A → Bool) (pair : A → A → Bool) (xs : List A) → ((x : A) → Mem x xs → alone x ≡ true)
+      → AllPairs pair xs → leastBroken alone pair [] xs ≡ length xs
+  none-broken alone pair xs e p =
+      of-unbroken alone pair [] xs (record { each = e; past = λ y x k m. absurd (not-nil k); pairs = p })
 
 module _ {A B : Type 0} where
   -- a map that carries the rule over

@@ -1,16 +1,17 @@
 -- What is promised of a move: demand 3 of the call, one outcome for each input, and a layer past itself.
 -- Assumes nothing.
-use Prim.Native.Nat.{ℕ, suc, zero, _+_, _-_, _≤_, _<_}
+use Prim.Native.Nat.{ℕ, _+_, _-_, _≤_, _<_}
 use native.Mathlib.Omega.{arith}
 use mathlib.Core.Path.{_≡_, refl, sym, ap, _∙_}
-use mathlib.Core.Bool.{Bool, true, false, not, cond}
+use mathlib.Core.Bool.{Bool, true, false, cond}
 use mathlib.Core.List.{List, [], _∷_, _++_}
-use lib.ListN.{length, getD, drop, length-map}
+use lib.ListN.{length, drop, length-map}
 use lib.Dec.{ltb, leb}
 use borrow.Author.Tests.{ltb-true, le-ltb, le-leb, eq-eqb}
-use Rattle.order.specs.Lists.{one, ascending, any, count, firstAt}
+use Rattle.order.specs.Lists.{one, ascending, count, firstAt}
 use Rattle.order.proofs.Tests.{and-of}
 use Rattle.order.proofs.Counts.{count-map, count-same}
+use Rattle.order.proofs.First.{first-passes, first-least}
 use Rattle.model.specs.declared.Answer.{Answer}
 use Rattle.model.specs.declared.Answer.the-variants.{Done, Refused}
 use Rattle.model.specs.Answer.{numberOf}
@@ -45,29 +46,6 @@ pub move-unique : (c : ℕ) (K : List ℕ) (mx : ℕ) (x : List ℕ) (my : ℕ) 
 move-unique c K mx x my y r s x′ z′ o p =
     let e = o .0 ∙ sym (p .0) in
     (e, o .1 ∙ (ap (λ (a : Answer). written a (flat c (movedLayer c mx x my y)) x) e ∙ sym (p .1)))
-
--- the first that passes
-module _ {A : Type 0} (f : A → Bool) (d : A) where
-  first-passes : (xs : List A) → firstAt f xs < length xs → f (getD xs (firstAt f xs) d) ≡ true
-  first-passes [] h = absurd (omega arith)
-  first-passes (x ∷ xs) h = go (f x) refl h (first-passes xs)
-    where
-      go : (t : Bool) → f x ≡ t → cond t 0 (suc (firstAt f xs)) < suc (length xs)
-          → (firstAt f xs < length xs → f (getD xs (firstAt f xs) d) ≡ true)
-          → f (getD (x ∷ xs) (cond t 0 (suc (firstAt f xs))) d) ≡ true
-      go true e g ih = e
-      go false e g ih = ih (omega arith)
-
-  first-least : (xs : List A) (i : ℕ) → i < firstAt f xs → f (getD xs i d) ≡ false
-  first-least [] i h = absurd (omega arith)
-  first-least (x ∷ xs) i h = go (f x) refl i h (first-least xs)
-    where
-      go : (t : Bool) → f x ≡ t → (i : ℕ) → i < cond t 0 (suc (firstAt f xs))
-          → ((j : ℕ) → j < firstAt f xs → f (getD xs j d) ≡ false)
-          → f (getD (x ∷ xs) i d) ≡ false
-      go true e i g ih = absurd (omega arith)
-      go false e zero g ih = e
-      go false e (suc i) g ih = ih i (omega arith)
 
 lowest : (X Y : Layer) → conflict X Y ≡ true → Lowest X Y (conflictPlace X Y)
 unfolding conflictPlace

@@ -1,16 +1,17 @@
 -- The stages of refusal: one that refuses answers for the whole call, one that accepts hands on to the next.
 -- Assumes nothing.
-use Prim.Native.Nat.{ℕ, suc, _+_, _≤_, _<_}
+use Prim.Native.Nat.{ℕ, _+_, _≤_, _<_}
 use native.Mathlib.Nat.{zero-add}
 use native.Mathlib.Omega.{arith}
 use mathlib.Core.Path.{_≡_, refl, sym, ap, _∙_}
-use mathlib.Core.Bool.{Bool, true, false, cond, _&&_, _||_}
+use mathlib.Core.Bool.{Bool, true, false, cond, _&&_}
 use mathlib.Core.List.{List, [], _∷_, _++_}
 use lib.ListN.{length}
 use lib.Dec.{ltb}
 use borrow.Author.Tests.{lt-ltb, le-ltb}
-use Rattle.order.specs.Lists.{ascending, any, firstAt}
-use Rattle.order.proofs.Tests.{and-l, and-r, same-test, tests}
+use Rattle.order.specs.Lists.{ascending}
+use Rattle.order.proofs.Tests.{and-l, and-r}
+use Rattle.order.proofs.First.{any-first}
 use Rattle.model.specs.declared.Refusal.{Refusal}
 use Rattle.model.specs.declared.Answer.{Answer}
 use Rattle.model.specs.declared.Answer.the-variants.{Done, Refused}
@@ -167,18 +168,6 @@ module _ (c : ℕ) (K : List ℕ) (mx : ℕ) (x : List ℕ) (my : ℕ) (y : List
       both-suit g = rw (a, layer-length c mx x, ← ep, le-ltb p mx h, layer-length c my y, ← eq, le-ltb q my g)
 
 -- Stage 3.
-any-first : {A : Type 0} (f : A → Bool) (xs : List A) → any f xs ≡ ltb (firstAt f xs) (length xs)
-any-first f [] = refl
-any-first f (x ∷ xs) = go (f x) (any-first f xs)
-  where
-    go : (t : Bool) → any f xs ≡ ltb (firstAt f xs) (length xs)
-        → (t || any f xs) ≡ ltb (cond t 0 (suc (firstAt f xs))) (suc (length xs))
-    go true ih = sym (lt-ltb 0 (suc (length xs)) (omega arith))
-    go false ih =
-        ih
-        ∙ same-test (ltb (firstAt f xs) (length xs)) (ltb (suc (firstAt f xs)) (suc (length xs))) (λ e. omega tests)
-        (λ e. omega tests)
-
 pub conflict-place : (X Y : Layer) → conflict X Y ≡ ltb (conflictPlace X Y) (length X)
 unfolding conflict conflictPlace
 conflict-place X Y = any-first (clashesWith Y) X

@@ -15,13 +15,14 @@ use Rattle.order.proofs.Counts.{count-same, count-sum, count-zero}
 use Rattle.order.proofs.Pairs.{AllPairs, pairs-weaker}
 use Rattle.model.specs.Row.{Row, key}
 use Rattle.model.specs.Cell.{agree}
-use Rattle.model.specs.Layer.{Deed, add, strike, change, Edit, at, Layer, position, isAdd, isStrike}
+use Rattle.model.specs.Layer.{Deed, add, strike, change, Edit, at, Layer, isAdd, isStrike}
 use Rattle.model.specs.Form.{follows}
 use Rattle.model.specs.Position.{addUpTo, strikeBefore, rowOf}
 use Rattle.model.specs.Edits.{deedBefore, before}
-use Rattle.model.specs.Conflict.{Rule, none, struckRow, sameCell, sameKey, clash, met, clashesWith}
+use Rattle.model.specs.Conflict.{struckRow, sameCell, sameKey, clash, met, clashesWith}
 use Rattle.model.specs.Move.{addBefore, addHereBelow, addPosition, moved}
 use Rattle.model.proofs.Edits.{before-cases, before-lt, before-eq, before-trans, before-follows, deed-key}
+use Rattle.model.proofs.Conflict.{met-test}
 use Rattle.model.proofs.Position.{strikes-few}
 use Rattle.pass.specs.Walk.{passed, ahead, ruleAhead, Matched}
 
@@ -132,10 +133,6 @@ module _ (L : Layer) (o : AllPairs before L) where
       ap (λ (p : ℕ). at p (change j f)) (omega (arith, row-gone s (change j f) (λ q. refl), strikes-gone s (change j f)))
 
 -- a rule that a test chooses
-met-test : (t : Bool) (r : Rule) → met (cond t r none) ≡ true → t ≡ true
-met-test true r h = refl
-met-test false r h = h
-
 -- two edits at one position, before which the same deeds stand
 same-before : (t p s : ℕ) (d y e : Deed) → p ≡ s → deedBefore d y ≡ deedBefore d e
     → before (at t d) (at p y) ≡ before (at t d) (at s e)

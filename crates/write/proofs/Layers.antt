@@ -1,20 +1,7 @@
 -- A layer's slice with entries replaced is the new layer, zeros where entries were freed, then what stood there before.
 -- Assumes nothing.
 use Prim.Native.Nat.{ℕ, zero, suc, _+_, _*_, _-_, _≤_, _<_, max}
-use native.Mathlib.Nat.{
-  zero-add,
-  suc-add,
-  sub-self,
-  zero-mul,
-  suc-mul,
-  sub-zero,
-  zero-sub,
-  suc-sub-suc,
-  add-mul,
-  mul-le-mul-right,
-  mul-comm,
-  mul-sub,
-}
+use native.Mathlib.Nat.{zero-add, suc-add, sub-self, zero-mul, suc-mul, add-mul, mul-le-mul-right, mul-comm, mul-sub}
 use native.Mathlib.Omega.{arith}
 use mathlib.Core.Path.{_≡_, refl, sym, ap, _∙_}
 use mathlib.Core.List.{
@@ -26,13 +13,13 @@ use mathlib.Core.List.{
   List·Memᴰ as Mem,
   List·Memᴰ·head as here,
   List·Memᴰ·tail as next,
-  List·Memᴰ·not-nil as not-nil,
 }
 use lib.ListN.{length, take, drop, set, replicate, length-append, length-drop, take-append-drop}
-use lib.Seq.{take-nil, length-take-le, take-at, drop-at, take-take, set-append-left}
+use lib.Seq.{length-take-le, take-at, drop-at, take-take, set-append-left}
 use Rattle.order.specs.Lists.{gather}
 use Rattle.order.proofs.Ascending.{At, at-length}
 use Rattle.order.proofs.Edited.{at-head, at-tail, at-none}
+use Rattle.order.proofs.Splice.{take-mem, part}
 use Rattle.model.specs.declared.Answer.the-variants.{Done}
 use Rattle.model.specs.Row.{Row}
 use Rattle.model.specs.Cell.{to, put}
@@ -84,19 +71,6 @@ flat-length c (e ∷ L) w =
       flat-length c L (λ d m. w d (next m)),
       suc-mul (length L) (c + 2),
     )
-
-pub take-mem : {A : Type 0} (i : ℕ) (L : List A) (e : A) → Mem e (take i L) → Mem e L
-take-mem zero L e m = absurd (not-nil m)
-take-mem (suc i) [] e m = absurd (not-nil m)
-take-mem (suc i) (x ∷ L) e (here f) = here f
-take-mem (suc i) (x ∷ L) e (next m) = next (take-mem i L e m)
-
--- a part of a list from `from` up to `end`, the two ways to say it
-pub part : {A : Type 0} (from end : ℕ) (xs : List A) → take (end - from) (drop from xs) ≡ drop from (take end xs)
-part zero end xs = rw sub-zero
-part (suc from) zero xs = rw zero-sub
-part (suc from) (suc end) [] = take-nil (suc end - suc from)
-part (suc from) (suc end) (x ∷ xs) = rw suc-sub-suc (part from end xs)
 
 sub-mul : (a b w : ℕ) → (a - b) * w ≡ a * w - b * w
 sub-mul a b w = mul-comm (a - b) w ∙ (mul-sub w a b ∙ (λ i. mul-comm w a i - mul-comm w b i))

@@ -1,4 +1,4 @@
--- An element entered into a list and others taken out at one place: the list's front, the element, the list's rest.
+-- Fronts and rests of a list; an element entered and others taken out at one place: the list's front, the element, the list's rest.
 -- Assumes nothing.
 use mathlib.Core.Path.{_≡_, refl, sym, ap, _∙_}
 use mathlib.Core.Bool.{Bool, true, false, not, cond, true≢false}
@@ -12,20 +12,32 @@ use mathlib.Core.List.{
   List·Memᴰ·tail as next,
   List·Memᴰ·not-nil as not-nil,
 }
-use Prim.Native.Nat.{ℕ, zero, suc, _+_, _≤_}
-use native.Mathlib.Nat.{suc-add}
-use native.Mathlib.Omega.{arith}
-use lib.ListN.{length, take, drop, take-append-drop}
-use lib.Seq.{drop-drop, drop-nil}
+use Prim.Native.Nat.{ℕ, zero, suc, _+_, _-_}
+use native.Mathlib.Nat.{suc-add, sub-zero, zero-sub, suc-sub-suc}
+use lib.ListN.{take, drop, take-append-drop}
+use lib.Seq.{drop-drop, drop-nil, take-nil}
 use Rattle.order.specs.Lists.{filter, insert, without, firstAt}
 use Rattle.order.proofs.Tests.{not-passed}
 use Rattle.order.proofs.Pairs.{AllPairs}
 
 module _ {A : Type 0} where
   pub drop-mem : (i : ℕ) (L : List A) (x : A) → Mem x (drop i L) → Mem x L
   drop-mem zero L x m = m
   drop-mem (suc i) [] x m = m
   drop-mem (suc i) (y ∷ L) x m = next (drop-mem i L x m)
+
+  pub take-mem : (i : ℕ) (L : List A) (e : A) → Mem e (take i L) → Mem e L
+  take-mem zero L e m = absurd (not-nil m)
+  take-mem (suc i) [] e m = absurd (not-nil m)
+  take-mem (suc i) (x ∷ L) e (here f) = here f
+  take-mem (suc i) (x ∷ L) e (next m) = next (take-mem i L e m)
+
+  -- a part of a list from `from` up to `end`, the two ways to say it
+  pub part : (from end : ℕ) (xs : List A) → take (end - from) (drop from xs) ≡ drop from (take end xs)
+  part zero end xs = rw sub-zero
+  part (suc from) zero xs = rw zero-sub
+  part (suc from) (suc end) [] = take-nil (suc end - suc from)
+  part (suc from) (suc end) (x ∷ xs) = rw suc-sub-suc (part from end xs)
 
   pub pairs-drop : (R : A → A → Bool) (i : ℕ) (L : List A) → AllPairs R L → AllPairs R (drop i L)
   pairs-drop R zero L p = p
@@ -70,15 +82,6 @@ module _ {A : Type 0} (R : A → A → Bool) (e : A) where
       go ih true h n = ih n
       go ih false h (here f) = ap (λ (z : A). R z e) f ∙ h
       go ih false h (next n) = not-passed (R d e) (λ f. true≢false (sym (trans x d e (p .0 d n) f) ∙ h))
-
-  pub first-le : (L : List A) → firstAt (λ x. not (R x e)) L ≤ length L
-  first-le [] = omega arith
-  first-le (x ∷ L) = go (first-le L) (R x e)
-    where
-      go : firstAt (λ y. not (R y e)) L ≤ length L → (t : Bool)
-          → cond (not t) 0 (suc (firstAt (λ y. not (R y e)) L)) ≤ suc (length L)
-      go ih true = omega arith
-      go ih false = omega arith
 
   -- an element entered
   pub insert-at : (i : ℕ) (L : List A) → ((d : A) → Mem d (take i L) → R d e ≡ true)

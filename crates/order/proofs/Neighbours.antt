@@ -10,23 +10,13 @@ use mathlib.Core.List.{
   _∷_,
   List·Memᴰ as Mem,
   List·Memᴰ·head as here,
-  List·Memᴰ·tail as next,
   List·Memᴰ·not-nil as not-nil,
   List·Memᴰ·cases-cons as cases-cons,
 }
 use Rattle.order.specs.Lists.{all, leastBroken}
 use Rattle.order.proofs.Tests.{and-l, same-test}
 use Rattle.order.proofs.Members.{all-mem, all-of}
-use Rattle.order.proofs.Pairs.{Unbroken}
-
--- where no element breaks a rule, none does with the first among the earlier ones
-pub unbroken-next : {A : Type 0} {sure : A → Bool} {G : A → A → Bool} {earlier : List A} (x : A) {xs : List A}
-    → Unbroken sure G earlier (x ∷ xs) → Unbroken sure G (x ∷ earlier) xs
-unbroken-next {A} {G = G} x U = record {
-  each = λ z m. U .each z (next m);
-  past = λ y z n m. ⊎-elim (λ g. ap (λ (w : A). G w z) g ∙ U .pairs .0 z m) (λ k. U .past y z k (next m)) (cases-cons n);
-  pairs = U .pairs .1;
-}
+use Rattle.order.proofs.Pairs.{Unbroken, unbroken-next}
 
 module _ {A : Type 0} (alone : A → Bool) (pair : A → A → Bool) where
   -- how many elements stand before the first that fails alone or with the one before it, which for the first is d
