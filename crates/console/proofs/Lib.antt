@@ -5,3 +5,6 @@ pub mod Printed
 pub mod Feeding
 pub mod Lines
 pub mod Once
+pub mod Standing
+pub mod Whole
+pub mod Told
