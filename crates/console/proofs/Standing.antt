@@ -33,7 +33,23 @@ use Rattle.line.specs.declared.Line.the-variants.{Base, Add, Strike, Change, Un
 use Rattle.line.specs.Line.{lineOf}
 use Rattle.console.specs.declared.Said.the-variants.{Unread, Refused}
 use Rattle.console.specs.declared.Desk.{Desk}
-use Rattle.console.specs.Desk.{Sheet, Roomy, mostBase, baseKeys, belowLast, shut, stay, grown, baseStep, baseTaken, entered, heard, withRow, withLayer, after}
+use Rattle.console.specs.Desk.{
+  Sheet,
+  Roomy,
+  mostBase,
+  baseKeys,
+  belowLast,
+  shut,
+  stay,
+  grown,
+  baseStep,
+  baseTaken,
+  entered,
+  heard,
+  withRow,
+  withLayer,
+  after,
+}
 use Rattle.console.specs.Input.{Reading, lineIn, linesIn}
 use Rattle.console.specs.Shown.{baseTable}
 use Rattle.console.specs.Standing.{emptyDesk, nothingRead, deskLayer, Standing}
@@ -136,16 +152,18 @@ lined {len} {d} {d′} {x} s r e f = record {
   early = λ h. e ∙ s .early (f h);
 }
 
--- the base keys
+-- the base columns and keys
 module _ (d : Desk) (x : Sheet) (R : Roomy d (x .keys) (x .sources) (x .masks)) where
   pub sized : (K : List ℕ) → length K ≡ mostBase → length (take (d .rows) K) ≡ d .rows
   sized K e = length-take-le (d .rows) K (omega (arith, R .standing))
 
+  pub as-long : (K : List ℕ) → length K ≡ mostBase → length (take (d .rows) K) ≡ length (baseKeys d x)
+  as-long K e = sized K e ∙ sym (sized (x .keys) (R .inKeys))
+
   columns-are : Columns (take (d .rows) (x .keys)) (take (d .rows) (x .sources)) (take (d .rows) (x .masks))
   columns-are =
       columns (take (d .rows) (x .keys)) (take (d .rows) (x .sources)) (take (d .rows) (x .masks))
-      (sized (x .sources) (R .inSources) ∙ sym (sized (x .keys) (R .inKeys)))
-      (sized (x .masks) (R .inMasks) ∙ sym (sized (x .keys) (R .inKeys)))
+      (as-long (x .sources) (R .inSources)) (as-long (x .masks) (R .inMasks))
 
   pub keys-are : keys (baseTable d x) ≡ baseKeys d x
   unfolding key
@@ -195,7 +213,8 @@ module _ {len : ℕ} {d : Desk} {x : Sheet} (s : Kept len d x) (g v m : ℕ) whe
       let K = take n (x .keys) in
       let z = sized d x (s .roomy) (x .keys) (s .roomy .inKeys) in
       let e = one-more (x .keys) n g (s .roomy .inKeys) f in
-      let a : ascending (K ++ (g ∷ [])) ≡ true = ascending-more K g (fitted 3 (d .entries) (x .layer) K (s .accepted) .rising) last in
+      let a : ascending (K ++ (g ∷ [])) ≡ true =
+      ascending-more K g (fitted 3 (d .entries) (x .layer) K (s .accepted) .rising) last in
       record {
         roomy = record {
           standing = omega arith;
@@ -211,7 +230,9 @@ module _ {len : ℕ} {d : Desk} {x : Sheet} (s : Kept len d x) (g v m : ℕ) whe
     where
       last : 0 < length (take (d .rows) (x .keys)) →
           getD (take (d .rows) (x .keys)) (length (take (d .rows) (x .keys)) - 1) 0 < g
-      last h = rw (sized d x (s .roomy) (x .keys) (s .roomy .inKeys)) (last-below (d .rows) (x .keys) g (omega (arith, sized d x (s .roomy) (x .keys) (s .roomy .inKeys))) b)
+      last h =
+          let z = sized d x (s .roomy) (x .keys) (s .roomy .inKeys) in
+          rw z (last-below (d .rows) (x .keys) g (omega arith) b)
 
   base-kept : Kept len (baseStep g d (x .keys) .desk) (withRow (baseTaken g d (x .keys)) (d .rows) x g v m)
   base-kept = go (shut d) (belowLast g (d .rows) (x .keys)) refl refl

@@ -26,13 +26,31 @@ use Rattle.line.specs.declared.Line.the-variants.{Base, Add, Strike, Change, Un
 use Rattle.line.specs.Line.{lineOf}
 use Rattle.console.specs.declared.Said.the-variants.{Unread, Refused}
 use Rattle.console.specs.declared.Desk.{Desk}
-use Rattle.console.specs.Desk.{Sheet, Roomy, mostBase, baseKeys, belowLast, shut, stay, grown, entered, heard, withRow, withLayer, after}
-use Rattle.console.specs.Input.{Reading, lineIn, linesIn}
+use Rattle.console.specs.Desk.{
+  Sheet,
+  Roomy,
+  mostBase,
+  baseKeys,
+  belowLast,
+  shut,
+  stay,
+  grown,
+  entered,
+  added,
+  struck,
+  changed,
+  heard,
+  withRow,
+  withLayer,
+  after,
+}
+use Rattle.console.specs.Input.{Reading, lineIn, linesIn, linesOf}
 use Rattle.console.specs.Text.{header, tableText}
-use Rattle.console.specs.Shown.{rowsOf, baseTable, shownTable, ending}
+use Rattle.console.specs.Shown.{rowsOf, baseTable, shownTable}
 use Rattle.console.specs.Standing.{emptyDesk, nothingRead, deskLayer}
-use Rattle.console.specs.Told.{deedDone, ifSilent, tableIn}
-use Rattle.console.proofs.Standing.{Kept, sized, keys-are, one-more, line-kept, start-kept}
+use Rattle.console.specs.Told.{deedDone, ifSilent, tableIn, printed}
+use Rattle.console.proofs.Lines.{input-heard}
+use Rattle.console.proofs.Standing.{Kept, as-long, keys-are, one-more, line-kept, start-kept}
 use Rattle.console.proofs.Whole.{whole-table-printed}
 
 -- three columns with a value more each are the rows with a row more
@@ -75,10 +93,12 @@ module _ {len : ℕ} {d : Desk} {x : Sheet} (k : Kept len d x) where
         let more : rowsOf (take n (x .keys) ++ (g ∷ [])) (take n (x .sources) ++ (s ∷ [])) (take n (x .masks) ++ (m ∷ []))
         ≡ baseTable d x ++ ((g ∷ s ∷ m ∷ []) ∷ []) =
         rows-more (take n (x .keys)) (take n (x .sources)) (take n (x .masks)) g s m
-        (sized d x R (x .sources) (R .inSources) ∙ sym (sized d x R (x .keys) (R .inKeys)))
-        (sized d x R (x .masks) (R .inMasks) ∙ sym (sized d x R (x .keys) (R .inKeys))) in
+        (as-long d x R (x .sources) (R .inSources)) (as-long d x R (x .masks) (R .inMasks)) in
+        let groups = one-more (x .keys) n g (R .inKeys) below in
+        let sources = one-more (x .sources) n s (R .inSources) below in
+        let masks = one-more (x .masks) n m (R .inMasks) below in
         empty-shown (baseTable (grown d .desk) (withRow true n x g s m)) (d .entries) (x .layer) none
-        ∙ (rw (one-more (x .keys) n g (R .inKeys) below, one-more (x .sources) n s (R .inSources) below, one-more (x .masks) n m (R .inMasks) below) more
+        ∙ (rw (groups, sources, masks) more
         ∙ ap (λ (T : Table). T ++ ((g ∷ s ∷ m ∷ []) ∷ [])) (sym (empty-shown (baseTable d x) (d .entries) (x .layer) none)))
 
     base-shown : (t u : Bool) → shut d ≡ t →
@@ -94,9 +114,9 @@ line-shown : (l : Line) {len : ℕ} {d : Desk} {x : Sheet} → Kept len d x →
     shownTable (heard l d x .desk) (after l d x) ≡ ifSilent (heard l d x .said) (deedDone l (shownTable d x)) (shownTable d x)
 unfolding heard after
 line-shown (Base g s m) {d = d} {x = x} k = base-shown k g s m (shut d) (belowLast g (d .rows) (x .keys)) refl
-line-shown (Add g s m) k = edit-shown k (adding (g ∷ s ∷ m ∷ [])) _ refl
-line-shown (Strike r) k = edit-shown k (striking r) _ refl
-line-shown (Change r j v) k = edit-shown k (changing r j (to v)) _ refl
+line-shown (Add g s m) {d = d} {x = x} k = edit-shown k (adding (g ∷ s ∷ m ∷ [])) (added d x (g ∷ s ∷ m ∷ [])) refl
+line-shown (Strike r) {d = d} {x = x} k = edit-shown k (striking r) (struck d x r) refl
+line-shown (Change r j v) {d = d} {x = x} k = edit-shown k (changing r j (to v)) (changed d x r j v) refl
 line-shown Unreadable k = refl
 
 lines-shown : (ls : List (List ℕ)) {len : ℕ} (i : Reading) → Kept len (i .desk) (i .sheet) →
@@ -107,13 +127,19 @@ lines-shown (l ∷ ls) i k =
     lines-shown ls (lineIn l i) (line-kept (lineOf l) k) ∙ ap (tableIn ls (lineIn l i)) (line-shown (lineOf l) k)
 
 -- Any lines, from the empty table and layer on.
-module _ (x : Sheet) (R : Roomy emptyDesk (x .keys) (x .sources) (x .masks)) (ls : List (List ℕ)) where
-  pub table-told : shownTable (linesIn ls (nothingRead x) .desk) (linesIn ls (nothingRead x) .sheet) ≡ tableIn ls (nothingRead x) []
+module _ (x : Sheet) (R : Roomy emptyDesk (x .keys) (x .sources) (x .masks)) where
+  pub table-told : (ls : List (List ℕ)) →
+      shownTable (linesIn ls (nothingRead x) .desk) (linesIn ls (nothingRead x) .sheet) ≡ tableIn ls (nothingRead x) []
   unfolding rowsOf
-  table-told =
+  table-told ls =
       lines-shown ls (nothingRead x) (start-kept x R) ∙ ap (tableIn ls (nothingRead x)) (empty-shown [] 0 (x .layer) refl)
 
-  -- so what is printed is the header and that table, a line a row
-  pub told-printed : ending (linesIn ls (nothingRead x) .desk) (linesIn ls (nothingRead x) .sheet)
-      ≡ header ++ tableText 0 (tableIn ls (nothingRead x) [])
-  told-printed = whole-table-printed x R ls .text ∙ ap (λ (T : Table). header ++ tableText 0 T) table-told
+  -- so all that is printed is what the lines say, the header, and that table, a line a row
+  pub all-printed : (bs : List ℕ) →
+      printed bs x
+      ≡ linesIn (linesOf bs) (nothingRead x) .text ++ (header ++ tableText 0 (tableIn (linesOf bs) (nothingRead x) []))
+  unfolding printed
+  all-printed bs =
+      let said = linesIn (linesOf bs) (nothingRead x) .text in
+      rw (input-heard bs emptyDesk x []) (ap (λ (t : List ℕ). said ++ t) (whole-table-printed x R (linesOf bs) .text)
+      ∙ ap (λ (T : Table). said ++ (header ++ tableText 0 T)) (table-told (linesOf bs)))

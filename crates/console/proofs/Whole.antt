@@ -26,7 +26,7 @@ use Rattle.console.specs.Shown.{baseTable, shownTable, ending, ifFormed,
 use Rattle.console.specs.Standing.{emptyDesk, nothingRead, deskLayer, Standing, WholeTable}
 use Rattle.console.proofs.Printed.{ReadColumns, read-columns, rows-wide}
 use Rattle.console.proofs.Lines.{input-heard}
-use Rattle.console.proofs.Standing.{sized, keys-are, always-good}
+use Rattle.console.proofs.Standing.{sized, as-long, keys-are, always-good}
 
 -- Where base rows and layer are as they are to be, the whole table is printed.
 module _ (d : Desk) (x : Sheet) (s : Standing d x) where
@@ -39,8 +39,7 @@ module _ (d : Desk) (x : Sheet) (s : Standing d x) where
   C : ReadColumns (take (d .rows) (x .keys)) (take (d .rows) (x .sources)) (take (d .rows) (x .masks)) L
   C =
       read-columns (take (d .rows) (x .keys)) (take (d .rows) (x .sources)) (take (d .rows) (x .masks)) L
-      (sized d x (s .roomy) (x .sources) (s .roomy .inSources) ∙ sym (sized d x (s .roomy) (x .keys) (s .roomy .inKeys)))
-      (sized d x (s .roomy) (x .masks) (s .roomy .inMasks) ∙ sym (sized d x (s .roomy) (x .keys) (s .roomy .inKeys)))
+      (as-long d x (s .roomy) (x .sources) (s .roomy .inSources)) (as-long d x (s .roomy) (x .masks) (s .roomy .inMasks))
 
   wide : Wide 3 T
   wide = rows-wide (take (d .rows) (x .keys)) (take (d .rows) (x .sources)) (take (d .rows) (x .masks))
