@@ -5,3 +5,7 @@ pub mod Printed
 pub mod Feeding
 pub mod Lines
 pub mod Once
+pub mod Example
+pub mod Standing
+pub mod Whole
+pub mod Told

@@ -1,24 +1,23 @@
 -- The printed rows, from the three columns that were read one by one.
 -- Assumes nothing.
 use mathlib.Core.Path.{_≡_, refl, sym, ap, _∙_}
-use mathlib.Core.List.{List, [], _∷_, _++_, map, append-nil, List·Memᴰ as Mem, List·Memᴰ·head as here, List·Memᴰ·tail as next}
-use Prim.Native.Nat.{ℕ, zero, suc, _+_, _-_, _≤_, _<_}
+use mathlib.Core.List.{List, [], _∷_, _++_, List·Memᴰ·head as here, List·Memᴰ·tail as next}
+use Prim.Native.Nat.{ℕ, suc, _+_, _-_, _≤_, _<_}
 use native.Mathlib.Omega.{arith}
-use lib.ListN.{length, take, drop}
+use lib.ListN.{length, take}
 use lib.Seq.{take-at, length-take-le}
-use Rattle.order.specs.Lists.{count}
 use Rattle.order.proofs.Counts.{count-le}
 use Rattle.model.specs.declared.Answer.{Answer}
 use Rattle.model.specs.declared.Answer.the-variants.{Done, Refused}
-use Rattle.model.specs.Row.{Row, Table, cell, column}
-use Rattle.model.specs.Layer.{Layer, isAdd, rowsAfter}
+use Rattle.model.specs.Row.{Table, cell, column}
+use Rattle.model.specs.Layer.{Layer, isAdd}
 use Rattle.model.specs.Raw.{layerOf}
 use Rattle.model.specs.Read.{read, readColumn}
 use Rattle.model.specs.Calls.{formAnswer, shownColumn}
 use Rattle.model.proofs.Column.{Wide, column-read}
 use Rattle.read.proofs.Answers.{counted, can-read}
 use Rattle.read.specs.Runs.{Readable}
-use Rattle.form.proofs.Accepted.{Accepted, accepted}
+use Rattle.form.proofs.Accepted.{accepted}
 use Rattle.model.specs.declared.Refusal.{Refusal}
 use Rattle.console.specs.declared.Desk.{Desk}
 use Rattle.console.specs.Desk.{Sheet}
@@ -33,7 +32,7 @@ columns-text i [] = refl
 columns-text i (r ∷ T) = ap (λ (t : List ℕ). rowText i (cell 0 r) (cell 1 r) (cell 2 r) ++ t) (columns-text (suc i) T)
 
 -- every row has three values
-rows-wide : (K S M : List ℕ) → Wide 3 (rowsOf K S M)
+pub rows-wide : (K S M : List ℕ) → Wide 3 (rowsOf K S M)
 unfolding rowsOf
 rows-wide [] S M r h = elim h [ ]
 rows-wide (k ∷ K) [] M r h = elim h [ ]
@@ -82,6 +81,23 @@ module _ (rows n m j : ℕ) (raw base : List ℕ) (h : j < 3) (e : formAnswer 3 
       ap (take rows) w
       ∙ take-at (shownColumn 3 m raw (take n base) j) rest rows (counted 3 m raw (take n base) j rows rows h same)
 
+-- the columns of the table that is read are the three columns read one by one
+pub record ReadColumns (K S M : List ℕ) (L : Layer) : Type 0 where
+  pub zeroth : column 0 (read (rowsOf K S M) L) ≡ readColumn 0 K L
+  pub first : column 1 (read (rowsOf K S M) L) ≡ readColumn 1 S L
+  pub second : column 2 (read (rowsOf K S M) L) ≡ readColumn 2 M L
+
+pub read-columns : (K S M : List ℕ) (L : Layer) → length S ≡ length K → length M ≡ length K → ReadColumns K S M L
+read-columns K S M L hS hM =
+    let T = rowsOf K S M in
+    let c = columns K S M hS hM in
+    let w = rows-wide K S M in
+    record {
+      zeroth = column-read 3 0 T L w (omega arith) ∙ ap (λ (X : List ℕ). readColumn 0 X L) (c .zeroth);
+      first = column-read 3 1 T L w (omega arith) ∙ ap (λ (X : List ℕ). readColumn 1 X L) (c .first);
+      second = column-read 3 2 T L w (omega arith) ∙ ap (λ (X : List ℕ). readColumn 2 X L) (c .second);
+    }
+
 -- the rows of three columns that were read are the rows of the table that is read
 pub rows-read : (rows m : ℕ) (raw K S M G O P : List ℕ) → length S ≡ length K → length M ≡ length K →
     take rows G ≡ readColumn 0 K (layerOf 3 m raw) → take rows O ≡ readColumn 1 S (layerOf 3 m raw) →
@@ -89,21 +105,8 @@ pub rows-read : (rows m : ℕ) (raw K S M G O P : List ℕ) → length S ≡ len
     columnsText 0 (take rows G) (take rows O) (take rows P) ≡ tableText 0 (read (rowsOf K S M) (layerOf 3 m raw))
 rows-read rows m raw K S M G O P hS hM wG wO wP =
     let L = layerOf 3 m raw in
-    let T = rowsOf K S M in
-    let c = columns K S M hS hM in
-    let w = rows-wide K S M in
-    rw (
-      wG,
-      wO,
-      wP,
-      ← columns-text 0 (read T L),
-      column-read 3 0 T L w (omega arith),
-      column-read 3 1 T L w (omega arith),
-      column-read 3 2 T L w (omega arith),
-      c .zeroth,
-      c .first,
-      c .second,
-    )
+    let c = read-columns K S M L hS hM in
+    rw (wG, wO, wP, ← columns-text 0 (read (rowsOf K S M) L), c .zeroth, c .first, c .second)
 
 -- the header alone, and with the rows behind it
 module _ (d : Desk) (x : Sheet) (old mid : List ℕ) (r : ℕ) (w : Wrote header old 0 r mid) where

@@ -1,5 +1,6 @@
 -- `console::hear` meets its contract, by what the line says.
 -- Assumes nothing.
+use mathlib.Core.Path.{sym, _∙_}
 use Rattle.console.proofs.Hearing.{hear-base, hear-add, hear-strike, hear-change, hear-none}
 use borrow.Author.Needs.{needs}
 use Rattle.console.proofs.hear.Statement.{statement}
@@ -48,7 +49,8 @@ same-length-3 : tie.Need-same-length-3
 same-length-3 c = search needs
 
 returns : tie.Need-returns
-returns c = hear-base _ _ _ _ _ _ _ (c .before .before .before .before .before .before .base-row .ensures) (cc)
+returns c = hear-base _ _ _ _ _ _ _ (c .before .before .before .before .before .before .base-row .ensures)
+    (sym (c .before .before .before .before .before .before .before .before .before .before .before .before .before .parse .ensures) ∙ c .before .before .before .before .before .before .before .before .before .before .before .g .given .1)
 
 same-length-4 : tie.Need-same-length-4
 same-length-4 c = search needs
@@ -57,7 +59,8 @@ same-length-5 : tie.Need-same-length-5
 same-length-5 c = search needs
 
 returns-2 : tie.Need-returns-2
-returns-2 c = hear-add _ _ _ _ _ _ _ _ (c .before .before .add-row .ensures) (cc)
+returns-2 c = hear-add _ _ _ _ _ _ _ _ (c .before .before .add-row .ensures)
+    (sym (c .before .before .before .before .before .before .before .before .parse .ensures) ∙ c .before .before .before .before .before .before .g2 .given .1)
 
 same-length-6 : tie.Need-same-length-6
 same-length-6 c = search needs
@@ -66,7 +69,8 @@ same-length-7 : tie.Need-same-length-7
 same-length-7 c = search needs
 
 returns-3 : tie.Need-returns-3
-returns-3 c = hear-strike _ _ _ _ _ _ _ _ (c .before .before .strike-row .ensures) (cc)
+returns-3 c = hear-strike _ _ _ _ _ _ _ _ (c .before .before .strike-row .ensures)
+    (sym (c .before .before .before .before .before .before .before .before .parse .ensures) ∙ c .before .before .before .before .before .before .r .given .1)
 
 same-length-8 : tie.Need-same-length-8
 same-length-8 c = search needs
@@ -75,10 +79,11 @@ same-length-9 : tie.Need-same-length-9
 same-length-9 c = search needs
 
 returns-4 : tie.Need-returns-4
-returns-4 c = hear-change _ _ _ _ _ _ _ _ (c .before .before .change-row .ensures) (cc)
+returns-4 c = hear-change _ _ _ _ _ _ _ _ (c .before .before .change-row .ensures)
+    (sym (c .before .before .before .before .before .before .before .before .parse .ensures) ∙ c .before .before .before .before .before .before .r2 .given .1)
 
 returns-5 : tie.Need-returns-5
-returns-5 c = hear-none _ _ _ _ _ _ _ (cc) (c .stay .ensures)
+returns-5 c = hear-none _ _ _ _ _ _ _ (sym (c .before .before .before .parse .ensures) ∙ c .before .enum-told .given .1) (c .stay .ensures)
 
 pub hear-spec : {M : Type 1} → statement M
 hear-spec =

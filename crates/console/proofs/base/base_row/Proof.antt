@@ -1,7 +1,7 @@
 -- `console::base::base_row` meets its contract: the tests in their order, then the three columns.
 -- Assumes nothing.
 use native.Mathlib.Omega.{arith}
-use mathlib.Core.Path.{_≡_, refl}
+use mathlib.Core.Path.{_≡_, refl, sym, _∙_}
 use mathlib.Core.Bool.{true, false}
 use lib.Dec.{leb}
 use borrow.Author.Tests.{le-leb}
@@ -43,10 +43,10 @@ same-length c = search needs
 returns-3 : tie.Need-returns-3
 returns-3 c =
     let a = c .before .before .before .before .before .before .before .before .before .args in
-    let e : a .desk .edited ≡ false = cc in
-    let l : belowLast (a .g) (a .desk .rows) (a .keys .now) ≡ true = cc in
+    let e : a .desk .edited ≡ false = c .before .before .before .before .before .if1 .left in
+    let l : belowLast (a .g) (a .desk .rows) (a .keys .now) ≡ true = sym (c .before .before .not-above .ensures) ∙ c .before .if3 .taken in
     based-low (a .g) (a .s) (a .m) (a .desk) (a .keys .now) (a .sources .now) (a .masks .now) (c .stay3 .result)
-    (still-open (a .desk) e (omega arith)) l (c .stay3 .ensures)
+    (still-open (a .desk) e (c .before .before .before .before .if2 .left)) l (c .stay3 .ensures)
 
 mul-keys : tie.Need-mul-keys
 mul-keys c = search needs
@@ -84,10 +84,10 @@ same-length-4 c = search needs
 returns-4 : tie.Need-returns-4
 returns-4 c =
     let a = c .before .before .before .before .before .before .before .before .before .args in
-    let e : a .desk .edited ≡ false = cc in
-    let l : belowLast (a .g) (a .desk .rows) (a .keys .now) ≡ false = cc in
+    let e : a .desk .edited ≡ false = c .before .before .before .before .before .if1 .left in
+    let l : belowLast (a .g) (a .desk .rows) (a .keys .now) ≡ false = sym (c .before .before .not-above .ensures) ∙ c .before .if3 .left in
     based-taken (a .g) (a .s) (a .m) (a .desk) (a .keys .now) (a .sources .now) (a .masks .now) _
-    (still-open (a .desk) e (omega arith)) l refl
+    (still-open (a .desk) e (c .before .before .before .before .if2 .left)) l refl
 
 pub base-row-spec : {M : Type 1} → statement M
 base-row-spec =

@@ -1,7 +1,7 @@
 -- `console::shown::finish` meets its contract: the header, and the rows where the layer keeps form.
 -- Assumes nothing.
 use native.Mathlib.Omega.{arith}
-use mathlib.Core.Path.{_≡_}
+use mathlib.Core.Path.{_≡_, sym, _∙_}
 use Rattle.model.specs.declared.Answer.the-variants.{Done}
 use Rattle.model.specs.Calls.{formAnswer}
 use Rattle.console.specs.Desk.{sheetOf}
@@ -33,7 +33,7 @@ put-table-requires c κs =
     let w = c .before .before .before .before .before .before .before .before .before .before .put-bytes in
     let n = w .kept .1 .0 in
     let e = w .ensures .end in
-    let f : formAnswer 3 (a .desk .rows) (a .desk .entries) (a .layer .now) ≡ Done (k .0 .0) = cc in
+    let f : formAnswer 3 (a .desk .rows) (a .desk .entries) (a .layer .now) ≡ Done (k .0 .0) = sym (c .before .before .before .before .before .before .before .check .ensures) ∙ k .1 in
     let few = few-shown (a .desk .rows) (a .desk .entries) (k .0 .0) (a .layer .now) (p .0 .standing) f in
     (f, omega arith, omega arith, omega arith, omega arith, omega arith, omega arith, omega arith)
 

@@ -1,0 +1,29 @@
+-- The paper's example of a printed table: antt computes what is printed, and the table that the lines make.
+-- Assumes nothing.
+use mathlib.Core.Path.{_≡_, refl}
+use mathlib.Core.List.{[], _∷_}
+use Rattle.model.specs.Row.{key}
+use Rattle.model.specs.Raw.{entriesAt, layerOf, flat, room}
+use Rattle.model.specs.Form.{formPlace, argsOk}
+use Rattle.model.specs.Fit.{fitPlace}
+use Rattle.model.specs.Position.{origins}
+use Rattle.model.specs.Edits.{addRow, strikeBase, strikeRow}
+use Rattle.model.specs.Refusals.{breaksForm}
+use Rattle.model.specs.Calls.{formAnswer, addAnswer, strikeAnswer}
+use Rattle.line.specs.Number.{isNumber}
+use Rattle.line.specs.Line.{fields, lineOf}
+use Rattle.line.specs.Decimal.{digitsWithin, digits, decimal}
+use Rattle.console.specs.Text.{message, rowText, tableText}
+use Rattle.console.specs.Desk.{heard, after}
+use Rattle.console.specs.Input.{bytesIn, inputEnds, linesFrom, linesOf}
+use Rattle.console.specs.Shown.{rowsOf, ending}
+use Rattle.console.specs.Standing.{nothingRead}
+use Rattle.console.specs.Told.{tableIn, printed, zeros, exampleInput, exampleOutput}
+
+pub example-printed : printed exampleInput zeros ≡ exampleOutput
+unfolding key entriesAt layerOf flat room formPlace argsOk fitPlace origins addRow strikeBase strikeRow breaksForm formAnswer addAnswer strikeAnswer isNumber fields lineOf digitsWithin digits decimal message rowText tableText heard after bytesIn inputEnds rowsOf ending printed
+example-printed = refl
+
+pub example-told : tableIn (linesOf exampleInput) (nothingRead zeros) [] ≡ (15 ∷ 2 ∷ 4 ∷ []) ∷ (20 ∷ 1 ∷ 2 ∷ []) ∷ []
+unfolding key entriesAt layerOf flat room formPlace argsOk fitPlace origins addRow strikeBase strikeRow breaksForm addAnswer strikeAnswer isNumber fields lineOf heard after linesFrom tableIn
+example-told = refl

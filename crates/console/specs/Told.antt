@@ -1,0 +1,64 @@
+-- The table that lines make: a line that says nothing does its deed to the rows that are shown; any other line, to which
+-- the program says `? L` or `refused N L`, does nothing.
+use mathlib.Core.List.{List, [], _∷_, _++_}
+use Prim.Native.Nat.{ℕ}
+use lib.ListN.{replicate}
+use Rattle.model.specs.Row.{Table}
+use Rattle.model.specs.Cell.{to}
+use Rattle.model.specs.Steps.{adding, striking, changing, stepBy}
+use Rattle.line.specs.declared.Line.{Line}
+use Rattle.line.specs.declared.Line.the-variants.{Base, Add, Strike, Change, Unreadable}
+use Rattle.line.specs.Line.{lineOf}
+use Rattle.console.specs.declared.Said.{Said}
+use Rattle.console.specs.declared.Said.the-variants.{Nothing, Unread, Refused}
+use Rattle.console.specs.Desk.{Sheet, sheetOf, mostBase, heard}
+use Rattle.console.specs.Input.{Reading, lineIn, bytesIn, inputEnds}
+use Rattle.console.specs.Text.{header}
+use Rattle.console.specs.Shown.{ending}
+use Rattle.console.specs.Standing.{nothingRead}
+
+-- a base row behind the others; a row more, in key order; row r struck; column j of row r changed
+abbrev pub deedDone : Line → Table → Table
+deedDone (Base g s m) T = T ++ ((g ∷ s ∷ m ∷ []) ∷ [])
+deedDone (Add g s m) T = stepBy (adding (g ∷ s ∷ m ∷ [])) T
+deedDone (Strike r) T = stepBy (striking r) T
+deedDone (Change r j v) T = stepBy (changing r j (to v)) T
+deedDone Unreadable T = T
+
+abbrev pub ifSilent : Said → Table → Table → Table
+ifSilent Nothing T U = T
+ifSilent Unread T U = U
+ifSilent (Refused n) T U = U
+
+-- the table after some lines, from one that is shown
+unfoldable pub tableIn : List (List ℕ) → Reading → Table → Table
+tableIn [] i T = T
+tableIn (l ∷ ls) i T =
+    tableIn ls (lineIn l i) (ifSilent (heard (lineOf l) (i .desk) (i .sheet) .said) (deedDone (lineOf l) T) T)
+
+-- all that is printed for an input: what its lines say, then the table
+unfoldable pub printed : List ℕ → Sheet → List ℕ
+printed bs x = let i = inputEnds (bytesIn bs (nothingRead x)) in i .text ++ ending (i .desk) (i .sheet)
+
+-- The paper's example, with the program's numbers, all zero before the first line.
+abbrev pub zeros : Sheet
+zeros = sheetOf (replicate mostBase 0) (replicate mostBase 0) (replicate mostBase 0) (replicate 2560 0)
+
+-- `B 10 1 1`, `B 20 1 2`, `+ 15 2 4`, `- 0`, `- 2`
+abbrev pub exampleInput : List ℕ
+exampleInput =
+    66 ∷ 32 ∷ 49 ∷ 48 ∷ 32 ∷ 49 ∷ 32 ∷ 49 ∷ 10
+    ∷ 66 ∷ 32 ∷ 50 ∷ 48 ∷ 32 ∷ 49 ∷ 32 ∷ 50 ∷ 10
+    ∷ 43 ∷ 32 ∷ 49 ∷ 53 ∷ 32 ∷ 50 ∷ 32 ∷ 52 ∷ 10
+    ∷ 45 ∷ 32 ∷ 48 ∷ 10
+    ∷ 45 ∷ 32 ∷ 50 ∷ 10
+    ∷ []
+
+-- `refused 5 5`, the header, `0 15 2 4`, `1 20 1 2`
+abbrev pub exampleOutput : List ℕ
+exampleOutput =
+    114 ∷ 101 ∷ 102 ∷ 117 ∷ 115 ∷ 101 ∷ 100 ∷ 32 ∷ 53 ∷ 32 ∷ 53 ∷ 10
+    ∷ (header
+    ++ (48 ∷ 32 ∷ 49 ∷ 53 ∷ 32 ∷ 50 ∷ 32 ∷ 52 ∷ 10
+    ∷ 49 ∷ 32 ∷ 50 ∷ 48 ∷ 32 ∷ 49 ∷ 32 ∷ 50 ∷ 10
+    ∷ []))
