@@ -3,7 +3,7 @@
 -- Assumes nothing.
 use mathlib.Core.Path.{_≡_, sym, ap, subst, _∙_}
 use mathlib.Core.Bool.{Bool, true, false, cond, _&&_}
-use mathlib.Core.List.{List, [], _∷_, _++_}
+use mathlib.Core.List.{List, [], _∷_}
 use Prim.Native.Nat.{ℕ, _+_, _*_, _≤_, _<_}
 use native.Mathlib.Nat.{zero-add}
 use native.Mathlib.Omega.{arith}
@@ -22,19 +22,7 @@ use Rattle.model.specs.Raw.{entriesOf, editOf, layerOf}
 use Rattle.model.specs.Form.{argsOk, zeros, sound, follows, formPlace}
 use Rattle.model.specs.Fit.{fitPlace}
 use Rattle.model.specs.Read.{keysAfter}
-use Rattle.model.specs.Refusals.{
-  Test,
-  refuse,
-  refusal,
-  firstMet,
-  badArgs,
-  badForm,
-  badKeys,
-  badFit,
-  noRoom,
-  tooManyRows,
-  breaksForm,
-}
+use Rattle.model.specs.Refusals.{Test, refusal, firstMet, badArgs, badForm, badKeys, badFit, noRoom, tooManyRows, breaksForm}
 use Rattle.model.specs.Calls.{formAnswer, combineAnswer, combinedLayer}
 use Rattle.model.proofs.Raw.{layer-length, entries-length, args-held}
 use Rattle.form.specs.InForm.{InForm}

@@ -5,20 +5,7 @@ use mathlib.Core.List.{List, [], _∷_, _++_, append-assoc}
 use Prim.Native.Nat.{ℕ, suc, _+_, _-_, _≤_}
 use native.Mathlib.Omega.{arith}
 use lib.ListN.{length, getD, set, take, drop, length-append, length-set}
-use lib.Seq.{
-  paste,
-  length-paste,
-  take-paste,
-  drop-paste,
-  take-length,
-  length-take-le,
-  set-append-seam,
-  set-at,
-  take-at,
-  drop-at,
-  take-take,
-  drop-drop,
-}
+use lib.Seq.{paste, length-paste, take-paste, drop-paste, take-length, length-take-le, set-at, take-at, drop-at, take-take, drop-drop}
 use borrow.Rule.Slice.PartMut.{putMid}
 use Rattle.run.proofs.Laws.{put-back}
 use Rattle.read.proofs.Writing.{part-slice}

@@ -4,7 +4,7 @@
 use mathlib.Core.Path.{_≡_, refl, sym, ap, subst, _∙_}
 use mathlib.Core.Logic.{inl, inr}
 use mathlib.Core.Bool.{true, false, true≢false}
-use mathlib.Core.List.{List, [], _∷_, map, List·Memᴰ as Mem}
+use mathlib.Core.List.{List, List·Memᴰ as Mem}
 use Prim.Native.Nat.{ℕ, _+_}
 use native.Mathlib.Omega.{arith}
 use lib.ListN.{length, getD}
@@ -24,7 +24,7 @@ use Rattle.model.proofs.Layer.{changed-key, struck-of}
 use Rattle.model.proofs.Read.{Shown, shown}
 use Rattle.model.proofs.Fit.{Fit, Good, key-kept, key-of, keys-length, below-keys, good-of}
 use Rattle.model.proofs.Count.{read-ascends, read-count, addFrom, strikeFrom}
-use Rattle.model.proofs.Column.{keys-read}
+use Rattle.model.proofs.Column.{keys-read, singles, keys-singles}
 use Rattle.model.proofs.Joined.{addsRow}
 use Rattle.model.proofs.Combine.{combine-good, meaning-combined, combine-rows, upper-good}
 use Rattle.combine.specs.Woven.{deed, wovenLayer}
@@ -113,15 +113,6 @@ woven-good c T R W a GR GW =
     (key-position T (combine (keys T) R W) a F)
     (λ k. w .means k ∙ sym (meaning-combined c T R W a GR GW k))
 
--- rows that have a key and nothing else
-abbrev rowsOf : List ℕ → Table
-rowsOf K = map (λ k. k ∷ []) K
-
-keys-rows : (K : List ℕ) → keys (rowsOf K) ≡ K
-unfolding key
-keys-rows [] = refl
-keys-rows (k ∷ K) = ap (λ (t : List ℕ). k ∷ t) (keys-rows K)
-
 -- over the keys, by the tests of the paper
 pub record Combines (c : ℕ) (K : List ℕ) (R W : Layer) : Type 0 where
   pub same : wovenLayer K (keysAfter K R) R W ≡ combine K R W
@@ -150,4 +141,4 @@ pub combines : (c : ℕ) (K : List ℕ) (R W : Layer) → ascending K ≡ true �
 combines c K R W =
     subst (λ (L : List ℕ). ascending L ≡ true → inOrder c (length L) R ≡ true → fits L R ≡ true
     → inOrder c (rowsAfter (length L) R) W ≡ true → fits (keysAfter L R) W ≡ true → Combines c L R W)
-    (keys-rows K) (over-keys c (rowsOf K) R W)
+    (keys-singles K) (over-keys c (singles K) R W)

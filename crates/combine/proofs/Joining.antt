@@ -4,8 +4,7 @@
 use mathlib.Core.Path.{_≡_, refl, sym, ap, subst, _∙_}
 use mathlib.Core.Bool.{true, false}
 use mathlib.Core.List.{List, [], _++_}
-use Prim.Native.Nat.{ℕ, _+_, _*_, _/_, _≤_}
-use native.Mathlib.Nat.{mul-le-mul-right, div-mul-le-self}
+use Prim.Native.Nat.{ℕ, _+_, _*_, _≤_}
 use native.Mathlib.Omega.{arith}
 use lib.ListN.{length, drop}
 use lib.Dec.{ltb}
@@ -25,6 +24,7 @@ use Rattle.form.proofs.Accepted.{Accepted, accepted}
 use Rattle.read.proofs.Ready.{ready}
 use Rattle.read.proofs.Rows.{rows-shown}
 use Rattle.write.proofs.Layers.{sound-wide, flat-length}
+use Rattle.write.proofs.Laws.{in-room}
 use Rattle.combine.specs.Woven.{wovenLayer}
 use Rattle.combine.specs.Walk.{Named, Both, Woven}
 use Rattle.combine.specs.Rows.{joinAnswer, Forms, Fits}
@@ -34,13 +34,6 @@ use Rattle.combine.proofs.Combined.{Combines, combines}
 pub fits-of : (K : List ℕ) (L : Layer) (m : ℕ) → length L ≡ m → m ≤ fitPlace K L → fits K L ≡ true
 unfolding fits fitPlace
 fits-of K L m l h = eq-eqb (fitPlace K L) (length L) (omega (arith, broken-le (suits K L) rises [] L))
-
--- what fits the room fits the slice
-pub room-fits : (c len m : ℕ) → m ≤ room c len → (m ≤ 512) × (m * (c + 2) ≤ len)
-unfolding room
-room-fits c len m h =
-    let q : m ≤ len / (c + 2) = omega arith in
-    (omega arith, omega (arith, mul-le-mul-right {m = m} {n = len / (c + 2)} (c + 2) q, div-mul-le-self len (c + 2)))
 
 -- as many keys as rows
 pub mid-rows : {c : ℕ} {K : List ℕ} {mR : ℕ} {rawR : List ℕ} {mW : ℕ} {rawW : List ℕ} → Forms c K mR rawR mW rawW
@@ -112,7 +105,7 @@ module _ {c : ℕ} {K : List ℕ} {mR : ℕ} {rawR : List ℕ} {mW : ℕ} {rawW 
     pub there : length (wovenLayer K N R W) * (c + 2) ≤ len
     there =
         let m = length (wovenLayer K N R W) in
-        (room-fits c len m (omega (arith, ltb-false (room c len) m h))) .1
+        (in-room c len m (omega (arith, ltb-false (room c len) m h))) .1
 
     -- refusal 10 is not met
     pub enough : (m : ℕ) → length (wovenLayer K N R W) ≡ m → Done m ≡ joinAnswer c K mR rawR mW rawW len

@@ -12,12 +12,11 @@ use lib.Dec.{eqb}
 use borrow.Author.Tests.{eqb-true, eqb-false}
 use Rattle.model.specs.declared.Entry.{Entry}
 use Rattle.model.specs.Layer.{rowsAfter}
-use Rattle.model.specs.Raw.{Held, entryAt, entriesAt, editOf, layerOf}
+use Rattle.model.specs.Raw.{entryAt, entriesAt, editOf, layerOf}
 use Rattle.model.specs.Meaning.{keyOf}
 use Rattle.model.specs.Fit.{fitPlace}
 use Rattle.model.proofs.Raw as raw
 use Rattle.form.specs.InForm.{InForm}
-use Rattle.form.specs.Suit.{first}
 use Rattle.form.proofs.Accepted.{Accepted, accepted}
 use Rattle.form.proofs.Looks.{fine, first-at}
 use Rattle.form.proofs.Fitting.{Fitting, begin, sound-here, onward, stop, end}

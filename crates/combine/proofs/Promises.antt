@@ -37,8 +37,10 @@ use Rattle.combine.specs.Rows.{Fits}
 use Rattle.combine.specs.Promises.{Outcome, Left, ColumnReads}
 use Rattle.combine.proofs.combine.Kinds as combine-kinds
 use Rattle.combine.proofs.combine.Reads as combine-contract
-use Rattle.combine.proofs.Joining.{low, up, joins, rows-few, flat-size, fits-of, room-fits}
-use Rattle.combine.proofs.Accepting.{Accepts, accepts, accepted-again}
+use Rattle.combine.proofs.Joining.{low, up, joins, rows-few, flat-size, fits-of}
+use Rattle.form.proofs.Accepted.{accepts-form, accepts-fit}
+use Rattle.write.proofs.Laws.{in-room}
+use Rattle.combine.proofs.Accepting.{Accepts, accepts}
 
 -- the contract, as the call is proved to meet it, allows just these outcomes
 pub outcome : (κs : Lfts 4) (a : Dens κs combine-kinds.ps) (s : AtExit (endedOf 4 combine-kinds.ps combine-kinds.r) κs)
@@ -112,8 +114,14 @@ module _ (c : ℕ) (T : Table) (mR : ℕ) (rawR : List ℕ) (mW : ℕ) (rawW out
         (subst (λ (n : ℕ). rowsAfter (rowsAfter n R) W ≤ 4096) (keys-length T) (up F .few))));
     fitted = subst (λ (L : Layer). fits K L ≡ true) (sym back) (combine-fits c T R W asc lower-good over-good);
     again =
-        accepted-again c m out′ K (low F .held .some) (low F .held .columns) (low F .base)
-        (room-fits c (length out) m (A .room-left) .0) fits-in
+        accepts-fit c m out′ K
+        (accepts-form c (length K) m out′
+        (record {
+          some = low F .held .some;
+          columns = low F .held .columns;
+          entries = in-room c (length out) m (A .room-left) .0;
+          room = fits-in;
+        }) (low F .base)
         (subst (λ (xs : List ℕ). (e : Entry) → Mem e (entriesOf c m xs) → zeros e ≡ true) (sym written-out)
         (zeros-back c (length K) (low F .held .some) (low F .held .columns) m M (drop (length (flat c M)) out) (A .size)
         (joins F .each)))
@@ -121,7 +129,7 @@ module _ (c : ℕ) (T : Table) (mR : ℕ) (rawR : List ℕ) (mW : ℕ) (rawW out
         (subst (AllPairs follows) (sym back)
         (pairs-weaker before follows M (λ x y p q h. before-follows x y h)
         (combine-good c T R W asc lower-good over-good .fit .sorted)))
-        (subst (λ (L : Layer). rowsAfter (length K) L ≤ 4096) (sym back) (rows-few F)) (F .rising)
+        (subst (λ (L : Layer). rowsAfter (length K) L ≤ 4096) (sym back) (rows-few F))) (F .rising)
         (subst (λ (L : Layer). fits K L ≡ true) (sym back) (combine-fits c T R W asc lower-good over-good));
     reads = ap (read T) back ∙ combine-reads c T R W asc lower-good over-good;
     behind =

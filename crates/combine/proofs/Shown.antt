@@ -3,10 +3,10 @@
 use mathlib.Core.Path.{_≡_, refl, sym, ap, _∙_}
 use mathlib.Core.Bool.{Bool, true, false, cond, not, _&&_, _||_, true≢false, and-true}
 use mathlib.Core.List.{List, [], _∷_, _++_, List·Memᴰ as Mem, List·Memᴰ·head as here, List·Memᴰ·tail as next}
-use Prim.Native.Nat.{ℕ, suc, _+_, _*_, _-_, _≤_, _<_}
+use Prim.Native.Nat.{ℕ, suc, _+_, _-_, _≤_, _<_}
 use native.Mathlib.Nat.{zero-mul, suc-mul, add-mul}
 use native.Mathlib.Omega.{arith}
-use lib.ListN.{length, getD, take, drop, List·getD-append}
+use lib.ListN.{length, getD, take, List·getD-append}
 use lib.Seq.{slice, length-slice, getD-append-add, getD-take, getD-drop, getD-at}
 use lib.Dec.{leb, ltb, eqb}
 use borrow.Author.Tests.{ltb-true, ltb-false, leb-true, leb-false, eqb-true, eqb-false, le-ltb, lt-ltb, ne-eqb, eq-eqb}
@@ -14,12 +14,11 @@ use Rattle.order.proofs.Tests.{and-l, and-r, or-false}
 use Rattle.model.specs.declared.Entry.{Entry}
 use Rattle.model.specs.Row.{cell, key}
 use Rattle.model.specs.Cell.{CellEdit, to}
-use Rattle.model.specs.Layer.{add, strike, change, Edit, at, Layer}
-use Rattle.model.specs.Form.{sound}
+use Rattle.model.specs.Layer.{add, strike, change, at, Layer}
 use Rattle.model.specs.Raw.{ADD, STRIKE, entryAt, editOf, layerOf}
 use Rattle.model.specs.Read.{keysAfter}
 use Rattle.model.specs.Meaning.{keyOf}
-use Rattle.form.specs.Suit.{first, risesKind, addFits, fitsAfter}
+use Rattle.form.specs.Suit.{first, addFits, fitsAfter}
 use Rattle.form.proofs.Looks.{add-fits, suits-strike, suits-change, rises-other}
 use Rattle.form.proofs.Accepted.{Accepted}
 use Rattle.read.specs.Runs.{runsFrom, Ready}

@@ -218,9 +218,6 @@ module _ {c : ℕ} {K N : List ℕ} {mR : ℕ} {r : List ℕ} {mW : ℕ} {w : Li
     pub lower-alone : Sound c (i * (c + 2)) r (length K)
     lower-alone = record { room = lower-room; some = AR .held .some; rows = AR .base; alone = lower-sound }
 
-    pub upper-alone : Sound c (j * (c + 2)) w (length N)
-    upper-alone = record { room = upper-room; some = AW .held .some; rows = AW .base; alone = upper-sound }
-
     pub upper-low : getD w (j * (c + 2)) 0 ≤ 4096
     upper-low = omega (arith, position-upto c (length N) F upper-sound, AW .base)
 

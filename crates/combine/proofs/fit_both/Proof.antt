@@ -7,13 +7,11 @@ use mathlib.Core.Path.{_≡_, sym, ap, subst, _∙_}
 use mathlib.Core.Bool.{true}
 use mathlib.Core.List.{List}
 use Prim.Native.Nat.{ℕ, _≤_}
-use lib.ListN.{length, take, length-append}
-use lib.Seq.{length-take-le}
+use lib.ListN.{length}
 use Rattle.order.specs.Lists.{ascending}
 use Rattle.model.specs.declared.Answer.{Answer}
 use Rattle.model.specs.Raw.{layerOf, flat}
 use Rattle.model.specs.Fit.{fitPlace}
-use Rattle.model.specs.Read.{keysAfter}
 use Rattle.model.specs.Calls.{combinedLayer, written}
 use Rattle.form.specs.InForm.{InForm}
 use Rattle.combine.proofs.Answering.{keys-refused, lower-refused, upper-refused, join-answer, upper-few}

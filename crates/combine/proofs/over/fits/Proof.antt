@@ -1,7 +1,7 @@
 -- `combine::over::fits` meets its contract: by the entry's kind, what is left of the rules is one test.
 -- Assumes nothing.
 use mathlib.Core.Path.{sym, ap, _∙_}
-use Prim.Native.Nat.{ℕ, _-_}
+use Prim.Native.Nat.{_-_}
 use lib.Dec.{eqb}
 use Rattle.model.specs.Raw.{entryAt, entriesAt}
 use Rattle.form.proofs.Looks.{first-at}

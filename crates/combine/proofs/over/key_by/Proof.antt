@@ -1,7 +1,5 @@
 -- `combine::over::key_by` meets its contract: the test of the kind is the definition's.
 -- Assumes nothing.
-use mathlib.Core.Path.{refl}
-use borrow.Author.Needs.{needs}
 use Rattle.combine.proofs.over.key_by.Statement.{statement}
 use Rattle.combine.proofs.over.key_by.Tie as tie
 

@@ -1,11 +1,10 @@
 -- `combine::over::key_of` meets its contract: an add at the mark shows its own key, else the base's shows.
 -- Assumes nothing.
 use native.Mathlib.Omega.{arith}
-use mathlib.Core.Path.{_≡_, refl, sym, ap, _∙_}
-use Prim.Native.Nat.{_+_, _*_, _-_, _≤_, _<_}
+use mathlib.Core.Path.{sym, _∙_}
+use Prim.Native.Nat.{_+_, _-_, _≤_}
 use lib.ListN.{length}
 use Rattle.form.proofs.Looks.{first-at}
-use Rattle.combine.specs.Over.{Marks}
 use Rattle.combine.proofs.Left.{left-room}
 use Rattle.combine.proofs.Shown.{key-added, key-base, key-last}
 use borrow.Author.Needs.{needs}

@@ -1,8 +1,8 @@
 -- `combine::over::onward` meets its contract: the mark finds the same keys at every turn.
 -- Assumes nothing.
 use native.Mathlib.Omega.{arith}
-use mathlib.Core.Path.{_≡_, refl, sym, ap, _∙_}
-use Prim.Native.Nat.{_+_, _*_, _-_, _≤_, _<_}
+use mathlib.Core.Path.{refl, sym, _∙_}
+use Prim.Native.Nat.{_+_, _-_, _≤_, _<_}
 use lib.ListN.{length}
 use Rattle.combine.specs.Over.{Marks}
 use Rattle.combine.proofs.Left.{left-room}

@@ -1,8 +1,7 @@
 -- `combine::over::past` meets its contract: by the kind, one row less, one more, or the same.
 -- Assumes nothing.
 use native.Mathlib.Omega.{arith}
-use mathlib.Core.Path.{refl, sym}
-use borrow.Author.Tests.{eq-eqb, ne-eqb}
+use borrow.Author.Tests.{ne-eqb}
 use Rattle.model.specs.Raw.{ADD, STRIKE}
 use borrow.Author.Needs.{needs}
 use Rattle.combine.proofs.over.past.Statement.{statement}
