@@ -393,26 +393,95 @@ answer plain_move(size_t c, const uint64_t *keys, size_t n, size_t mx, uint64_t 
     return done(mx);
 }
 
-static uint64_t key_of(const uint64_t *e, const uint64_t *keys) {
-    return e[1] == KW_ADD || e[1] == KW_STRIKE ? e[2] : keys[e[0]];
+/* A place in the lower layer on the way to a row of what it leaves: were there no entries but those from number i on, the row would be
+   base row t. */
+struct mark {
+    size_t i, row, t;
+};
+
+/* the mark of a row, which does not lie before the mark's own */
+static struct mark seek(size_t c, size_t m, const uint64_t *r, struct mark k, size_t row) {
+    k.t += row - k.row;
+    k.row = row;
+    for (const uint64_t *e = r + k.i * (c + 2); k.i < m; k.i++, e += c + 2) {
+        if (e[1] == KW_ADD) {
+            if (k.t <= e[0])
+                break;
+            k.t--;
+        } else if (e[1] == KW_STRIKE) {
+            if (k.t < e[0])
+                break;
+            k.t++;
+        }
+    }
+    return k;
 }
 
-/* One walk along both layers by key: at most mr + mw entries into `to`. */
-static size_t weave(size_t c, const uint64_t *keys, const uint64_t *mid, size_t mr, const uint64_t *r, size_t mw, const uint64_t *w,
-                    uint64_t *to) {
+static uint64_t key_there(size_t c, size_t m, const uint64_t *r, const uint64_t *keys, size_t n, struct mark k) {
+    const uint64_t *e = r + k.i * (c + 2);
+    if (k.i < m && e[1] == KW_ADD && e[0] == k.t)
+        return e[2];
+    return k.t < n ? keys[k.t] : 0;
+}
+
+/* fit of the upper layer to the keys that the lower leaves: the least entry at fault, or m; and the key that each entry concerns */
+static size_t fit_over(size_t c, const uint64_t *keys, size_t n, size_t mr, const uint64_t *r, size_t rows, size_t mw, const uint64_t *w,
+                       uint64_t *names) {
+    struct mark low = {0, 0, 0}, here = {0, 0, 0};
+    uint64_t last = 0, before = 0;
+    bool any = false;
+    const uint64_t *f = w;
+    for (size_t j = 0; j < mw; j++, f += c + 2) {
+        uint64_t s = f[0], k = f[2];
+        here = seek(c, mr, r, here, s);
+        uint64_t next = key_there(c, mr, r, keys, n, here);
+        names[j] = k;
+        if (f[1] == KW_STRIKE) {
+            if (next != k)
+                return j;
+        } else if (f[1] == KW_ADD) {
+            if (s > 0) {
+                low = seek(c, mr, r, low, s - 1);
+                if (key_there(c, mr, r, keys, n, low) >= k)
+                    return j;
+            }
+            if (s < rows && (k > next || (k == next && !struck_later(c, mw, j, w))))
+                return j;
+            if (any && before == s && last >= k)
+                return j;
+            any = true;
+            before = s;
+            last = k;
+        } else {
+            names[j] = next;
+        }
+    }
+    return mw;
+}
+
+static inline void put(size_t wd, uint64_t *to, const uint64_t *e, uint64_t position) {
+    for (size_t k = 1; k < wd; k++)
+        to[k] = e[k];
+    to[0] = position;
+}
+
+/* One walk along both layers by key: the entries into `to`, or only counted. */
+static inline __attribute__((always_inline)) size_t walk(bool write, size_t c, const uint64_t *keys, const uint64_t *names, size_t mr,
+                                                         const uint64_t *r, size_t mw, const uint64_t *w, uint64_t *to) {
     size_t wd = c + 2, i = 0, j = 0, o = 0, adds = 0, strikes = 0;
     while (i < mr || j < mw) {
         const uint64_t *e = r + i * wd, *f = w + j * wd;
-        uint64_t ke = i < mr ? key_of(e, keys) : 0, kf = j < mw ? key_of(f, mid) : 0;
+        uint64_t ke = i < mr ? (e[1] == KW_ADD || e[1] == KW_STRIKE ? e[2] : keys[e[0]]) : 0, kf = j < mw ? names[j] : 0;
         if (j == mw || (i < mr && ke < kf)) {
-            memcpy(to + o * wd, e, wd * 8);
+            if (write)
+                put(wd, to + o * wd, e, e[0]);
             o++;
             adds += e[1] == KW_ADD;
             strikes += e[1] == KW_STRIKE;
             i++;
         } else if (i == mr || kf < ke) {
-            memcpy(to + o * wd, f, wd * 8);
-            to[o * wd] = f[0] + strikes - adds;
+            if (write)
+                put(wd, to + o * wd, f, f[0] + strikes - adds);
             o++;
             j++;
         } else if (e[1] == KW_ADD) {
@@ -421,40 +490,43 @@ static size_t weave(size_t c, const uint64_t *keys, const uint64_t *mid, size_t 
             if (f[1] == KW_STRIKE) {
                 j++;
             } else if (f[1] == KW_ADD) {
-                memcpy(to + o * wd, f, wd * 8);
-                to[o * wd] = e[0];
+                if (write)
+                    put(wd, to + o * wd, f, e[0]);
                 o++;
                 j += 2;
             } else {
-                memcpy(to + o * wd, e, wd * 8);
+                if (write)
+                    put(wd, to + o * wd, e, e[0]);
                 uint64_t p = f[0];
                 while (j < mw && w[j * wd] == p) {
-                    to[o * wd + 2 + w[j * wd + 1]] = w[j * wd + 2];
+                    if (write)
+                        to[o * wd + 2 + w[j * wd + 1]] = w[j * wd + 2];
                     j++;
                 }
                 o++;
             }
         } else if (f[1] == KW_ADD) {
-            memcpy(to + o * wd, f, wd * 8);
-            to[o * wd] = e[0];
+            if (write)
+                put(wd, to + o * wd, f, e[0]);
             o++;
             j++;
         } else if (f[1] == KW_STRIKE) {
             uint64_t s = e[0];
             while (i < mr && r[i * wd] == s)
                 i++;
-            memcpy(to + o * wd, f, wd * 8);
-            to[o * wd] = s;
+            if (write)
+                put(wd, to + o * wd, f, s);
             o++;
             j++;
         } else if (e[1] < f[1]) {
-            memcpy(to + o * wd, e, wd * 8);
+            if (write)
+                put(wd, to + o * wd, e, e[0]);
             o++;
             i++;
         } else {
             i += e[1] == f[1];
-            memcpy(to + o * wd, f, wd * 8);
-            to[o * wd] = e[0];
+            if (write)
+                put(wd, to + o * wd, f, e[0]);
             o++;
             j++;
         }
@@ -477,14 +549,12 @@ answer plain_combine(size_t c, const uint64_t *keys, size_t n, size_t mr, const 
     size_t p = fit_place(c, mr, r, keys, n);
     if (p < mr)
         return refused(4, p);
-    uint64_t mid[KW_MOST_ROWS], to[2 * KW_MOST_ENTRIES * (KW_MOST_COLUMNS + 2)];
-    size_t rows = read_part(c, mr, r, keys, n, 0, mid);
-    p = fit_place(c, mw, w, mid, rows);
+    uint64_t names[KW_MOST_ENTRIES];
+    p = fit_over(c, keys, n, mr, r, a.value, mw, w, names);
     if (p < mw)
         return refused(4, p + 1000);
-    size_t m = weave(c, keys, mid, mr, r, mw, w, to);
-    if (m > room(c, out_len))
+    size_t most = room(c, out_len);
+    if (mr + mw > most && walk(false, c, keys, names, mr, r, mw, w, out) > most)
         return refused(9, 0);
-    memcpy(out, to, m * (c + 2) * 8);
-    return done(m);
+    return done(walk(true, c, keys, names, mr, r, mw, w, out));
 }
