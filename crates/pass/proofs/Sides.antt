@@ -85,10 +85,6 @@ module _ (c : ℕ) (K : List ℕ) (mx : ℕ) (x : List ℕ) (my : ℕ) (y : List
         };
       }
 
-  pub weighed : (rows : ℕ) → rows ≡ rowsAfter (length K) (layerOf c mx x) + rowsAfter (length K) (layerOf c my y)
-      → Weighed c (length K) rows mx x my y
-  weighed rows e = record { walks = walkable; base = S .mine .form .base; strikes = S .mine .form .strikes; total = e }
-
   sound-position : (n : ℕ) (e : Edit) → sound c n e ≡ true → position e ≤ n
   sound-position n (at s (add r)) h = leb-true s n (and-l (leb s n) (eqb (length r) c) h)
   sound-position n (at s (strike k)) h = omega (arith, ltb-true s n h)
@@ -100,6 +96,10 @@ module _ (c : ℕ) (K : List ℕ) (mx : ℕ) (x : List ℕ) (my : ℕ) (y : List
     zeroed = S .mine .form .zeroed;
     based = λ e m. omega (arith, sound-position (length K) e (S .mine .form .each e m), S .mine .form .base);
   }
+
+  pub weighed : (rows : ℕ) → rows ≡ rowsAfter (length K) (layerOf c mx x) + rowsAfter (length K) (layerOf c my y)
+      → Weighed c (length K) rows mx x my y
+  weighed rows e = record { moves = movable; base = S .mine .form .base; strikes = S .mine .form .strikes; total = e }
 
   -- a moved layer is as long as it was
   moved-numbers : (Y : Layer) (e : Edit) → length (numbersOf c (moved Y e)) ≡ length (numbersOf c e)

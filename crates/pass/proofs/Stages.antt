@@ -194,3 +194,7 @@ module _ (c n rows mx : ℕ) (x : List ℕ) (my : ℕ) (y : List ℕ) (W : Weigh
 
   pub passes : mx ≤ p → rows ≤ 4096 + n → Done mx ≡ passing
   passes h g = rw (le-ltb 4096 rowsInAll (omega (arith, W .strikes, W .total))) at (by-rows h)
+
+-- a refusal is no result
+pub never-done : (x : Refusal) (k : ℕ) → Refused x ≡ Done k → ⊥
+never-done x k e = let o : _≡_ {A = ℕ} 0 1 = cc in omega arith

@@ -10,7 +10,7 @@ use Rattle.model.specs.Raw.{layerOf}
 use Rattle.model.specs.Form.{argsOk}
 use Rattle.model.specs.Conflict.{conflict, conflictPlace}
 use Rattle.model.specs.Refusals.{Test, refuse, badArgs, badForm, badKeys, badFit, tooManyRows}
-use Rattle.pass.specs.Walk.{Walkable}
+use Rattle.pass.specs.Walk.{Movable}
 
 -- refusals 1 and 2
 unfoldable pub formTests : ℕ → ℕ → ℕ → List ℕ → ℕ → List ℕ → List Test
@@ -25,9 +25,9 @@ fitTests K X Y = badKeys K ∷ badFit 0 K X ∷ badFit 1000 K Y ∷ []
 unfoldable pub passTests : ℕ → Layer → Layer → List Test
 passTests n X Y = refuse 8 (conflictPlace X Y) (conflict X Y) ∷ tooManyRows (rowsAfter (rowsAfter n Y) X) ∷ []
 
--- the layers can be walked along, and `rows` is the rows after the one and after the other, together
+-- X can be moved past Y, and `rows` is the rows after the one and after the other, together
 pub record Weighed (c n rows mx : ℕ) (x : List ℕ) (my : ℕ) (y : List ℕ) : Type 0 where
-  pub walks : Walkable c mx x my y
+  pub moves : Movable c mx x my y
   pub base : n ≤ 4096
   pub strikes : count isStrike (layerOf c mx x) ≤ n
   pub total : rows ≡ rowsAfter n (layerOf c mx x) + rowsAfter n (layerOf c my y)

@@ -2,14 +2,15 @@
 use mathlib.Core.Path.{_≡_}
 use mathlib.Core.Bool.{Bool, true, cond}
 use mathlib.Core.List.{List, [], _∷_, map, List·Memᴰ as Mem}
-use Prim.Native.Nat.{ℕ, _+_, _-_, _*_, _≤_}
-use lib.ListN.{length}
+use Prim.Native.Nat.{ℕ, _+_, _-_, _*_, _≤_, _<_}
+use lib.ListN.{length, getD}
 use Rattle.order.specs.Lists.{count}
 use Rattle.order.proofs.Pairs.{AllPairs}
 use Rattle.model.specs.declared.Entry.{Entry}
 use Rattle.model.specs.Row.{Row, key}
 use Rattle.model.specs.Layer.{Edit, at, add, Layer, position, isAdd, isStrike}
-use Rattle.model.specs.Raw.{Held, entriesAt, entriesOf, editOf, layerOf}
+use Rattle.model.specs.Raw.{Held, entryAt, entriesAt, entriesOf, editOf, layerOf}
+use Rattle.model.specs.Move.{moved}
 use Rattle.model.specs.Form.{zeros}
 use Rattle.model.specs.Edits.{before}
 use Rattle.model.specs.Conflict.{Rule, none, clash}
@@ -65,8 +66,16 @@ pub record Walkable (c mx : ℕ) (xs : List ℕ) (my : ℕ) (ys : List ℕ) : Ty
   pub theirs : Held c my ys
   pub matched : Matched (layerOf c mx xs) (layerOf c my ys)
 
+-- the new positions of X's first i entries, moved past Y
+abbrev pub Positions : ℕ → List ℕ → Layer → ℕ → List ℕ → Type 0
+Positions c xs Y i to = (j : ℕ) → j < i → getD to j 0 ≡ position (moved Y (editOf (entryAt c (j * (c + 2)) xs)))
+
+-- the m entries of a slice have their zeros
+abbrev pub Zeroed : ℕ → ℕ → List ℕ → Type 0
+Zeroed c m xs = (e : Entry) → Mem e (entriesOf c m xs) → zeros e ≡ true
+
 -- X's entries have their zeros and stand at rows of a base
 pub record Movable (c mx : ℕ) (xs : List ℕ) (my : ℕ) (ys : List ℕ) : Type 0 where
   pub walks : Walkable c mx xs my ys
-  pub zeroed : (e : Entry) → Mem e (entriesOf c mx xs) → zeros e ≡ true
+  pub zeroed : Zeroed c mx xs
   pub based : (e : Edit) → Mem e (layerOf c mx xs) → position e ≤ 4096

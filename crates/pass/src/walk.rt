@@ -5,15 +5,16 @@ ghost use mathlib.Core.Path.{_≡_};
 ghost use mathlib.Core.Bool.{false};
 ghost use mathlib.Core.List.{_++_};
 ghost use Prim.Native.Nat.{_+_, _*_, _-_, _≤_, _<_};
-ghost use lib.ListN.{drop};
+ghost use lib.ListN.{length, drop};
 ghost use lib.Dec.{eqb};
 ghost use Rattle.order.specs.Lists.{one};
-ghost use Rattle.model.specs.Raw.{ADD, STRIKE, layerOf, flat};
+ghost use Rattle.model.specs.Layer.{Layer};
+ghost use Rattle.model.specs.Raw.{ADD, STRIKE, Held, layerOf, flat};
 ghost use Rattle.model.specs.Edits.{before};
 ghost use Rattle.model.specs.Conflict.{met, conflictPlace};
 ghost use Rattle.model.specs.Move.{move};
 ghost use Rattle.pass.specs.Head.{seen};
-ghost use Rattle.pass.specs.Walk.{outset, left, Within, Advanced, Walkable, Movable, ruleAhead};
+ghost use Rattle.pass.specs.Walk.{outset, left, Within, Advanced, Movable, Positions, Zeroed, ruleAhead};
 
 // A place in a layer: entry number i, which stands from `at`, and the adds and strikes before it.
 pub struct Cursor {
@@ -99,10 +100,12 @@ fn clashes(c: usize, m: usize, layer: &[u64], k: Cursor, e: Head) -> bool
     false
 }
 
-// The lowest entry of X that is in conflict with one of Y, or their number.
-pub fn first_clash(c: usize, mx: usize, x: &[u64], my: usize, y: &[u64]) -> usize
-    requires { ⌜ Walkable c mx (now x) my (now y) ⌝ }
-    ensures { λ r. ⌜ r ≡ conflictPlace (layerOf c mx (now (x .entry))) (layerOf c my (now (y .entry))) ⌝ }
+// The lowest entry of X that is in conflict with one of Y, or their number. The new positions of those before it go into
+// `to`.
+pub fn first_clash(c: usize, mx: usize, x: &[u64], my: usize, y: &[u64], to: &mut [u64]) -> usize
+    requires { ⌜ Movable c mx (now x) my (now y) × (mx ≤ length (now to)) ⌝ }
+    ensures { λ r. ⌜ (r ≡ conflictPlace (layerOf c mx (now (x .entry))) (layerOf c my (now (y .entry))))
+        × Positions c (now (x .entry)) (layerOf c my (now (y .entry))) r (now (to .exit)) ⌝ }
 {
     let mut i: usize = 0;
     let mut at: usize = 0;
@@ -113,26 +116,23 @@ pub fn first_clash(c: usize, mx: usize, x: &[u64], my: usize, y: &[u64]) -> usiz
         if clashes(c, my, y, k, e) {
             return i;
         }
+        to[i] = e.pos + k.adds - k.strikes;
         at += c + 2;
         i += 1;
     }
     i
 }
 
-// Writes the new positions of X, moved past Y.
-pub fn renumber(c: usize, mx: usize, x: &mut [u64], my: usize, y: &[u64])
-    requires { ⌜ Movable c mx (now x) my (now y) ⌝ }
-    ensures { λ _. ⌜ now (x .exit)
-        ≡ flat c (move (layerOf c mx (now (x .entry))) (layerOf c my (now (y .entry))))
-        ++ drop (mx * (c + 2)) (now (x .entry)) ⌝ }
+// Writes the positions `to` over those of the layer's entries.
+pub fn renumber(c: usize, m: usize, x: &mut [u64], to: &[u64])
+    requires { ⌜ Held c m (now x) × Zeroed c m (now x) × (m ≤ length (now to)) ⌝ }
+    ensures { λ _. ⌜ ((Y : Layer) → Positions c (now (x .entry)) Y m (now (to .entry))
+        → now (x .exit) ≡ flat c (move (layerOf c m (now (x .entry))) Y) ++ drop (m * (c + 2)) (now (x .entry))) ⌝ }
 {
     let mut i: usize = 0;
     let mut at: usize = 0;
-    let mut k = Cursor::outset();
-    while i < mx {
-        let e = crate::head::head_at(c, at, x);
-        k = advance(c, my, y, k, e);
-        x[at] = e.pos + k.adds - k.strikes;
+    while i < m {
+        x[at] = to[i];
         at += c + 2;
         i += 1;
     }
