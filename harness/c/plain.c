@@ -371,25 +371,22 @@ answer plain_move(size_t c, const uint64_t *keys, size_t n, size_t mx, uint64_t 
     p = fit_place(c, my, y, keys, n);
     if (p < my)
         return refused(4, p + 1000);
-    size_t w = c + 2, h = 0;
-    for (size_t i = 0; i < mx; i++) {
-        while (h < my && before(y + h * w, x + i * w))
-            h++;
-        if (h < my && clash(y + h * w, x + i * w))
-            return refused(8, i);
-    }
-    if (a.value + b.value > KW_MOST_ROWS + n)
-        return refused(10, 0);
-    size_t adds = 0, strikes = 0;
-    h = 0;
+    size_t w = c + 2, h = 0, adds = 0, strikes = 0;
+    uint64_t to[KW_MOST_ENTRIES];
     for (size_t i = 0; i < mx; i++) {
         while (h < my && before(y + h * w, x + i * w)) {
             adds += y[h * w + 1] == KW_ADD;
             strikes += y[h * w + 1] == KW_STRIKE;
             h++;
         }
-        x[i * w] = x[i * w] + adds - strikes;
+        if (h < my && clash(y + h * w, x + i * w))
+            return refused(8, i);
+        to[i] = x[i * w] + adds - strikes;
     }
+    if (a.value + b.value > KW_MOST_ROWS + n)
+        return refused(10, 0);
+    for (size_t i = 0; i < mx; i++)
+        x[i * w] = to[i];
     return done(mx);
 }
 
