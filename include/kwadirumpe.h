@@ -33,7 +33,7 @@
  *
  * MEMORY. A const pointer is only read, and may be shared by calls that run at once. A pointer that is not const must be
  * yours alone during the call, and overlap nothing else that the call is lent. A length of 0 takes any pointer that is not null
- * and is aligned. Nothing is kept after a call, nothing is allocated. kw_combine uses about 5 KiB of stack, any other less than 1.
+ * and is aligned. Nothing is kept after a call, nothing is allocated. kw_combine and kw_move use about 5 KiB of stack, any other less than 1.
  */
 #ifndef KWADIRUMPE_H
 #define KWADIRUMPE_H
