@@ -14,7 +14,7 @@
  * The room of a slice is the smaller of 512 and the whole entries that it can hold.
  *
  * EVERY CALL ANSWERS EVERY INPUT. number 0: accepted, and value is the result. Else number is the refusal and value its place,
- * and no lent number was changed. Refusals are tested in number order.
+ * and no lent number was changed. Refusals are tested in number order. (kw_view alone gives no number: the read before it does.)
  *
  *      1  an argument passes its limit: c not 1 to 8, n over 4,096, m over 512 or over its slice, a column number
  *         not below c, a row not c long, a position past n
@@ -63,6 +63,12 @@ struct kw_shift {
     int64_t value;
 };
 
+/* What kw_view hands back: 1, the front of the buffer, or 0, a part of the base column; and how long that part is. */
+struct kw_part {
+    uint64_t of_buffer;
+    uint64_t length;
+};
+
 /* Does the layer keep form and fit the key column? Refusals 1 2 3 4. value: 0. */
 struct kw_answer kw_fit(size_t c, size_t m, const uint64_t *layer, size_t layer_len, const uint64_t *keys, size_t n);
 
@@ -70,25 +76,27 @@ struct kw_answer kw_fit(size_t c, size_t m, const uint64_t *layer, size_t layer_
 struct kw_answer kw_read(size_t c, size_t m, const uint64_t *layer, size_t layer_len, const uint64_t *base, size_t n,
                          size_t j, uint64_t *out, size_t out_len);
 
-/* After a read, where to look: number 0, a part of the base column (all of it where the layer leaves column j as it is, none of it
- * where the read was refused); number 1, the front of out. value: the length of that part. */
-struct kw_answer kw_view(size_t c, size_t m, const uint64_t *layer, size_t layer_len, const uint64_t *base, size_t n,
-                         size_t j, const uint64_t *out, size_t out_len);
+/* After a read, where to look: at the base column, all of it, where the layer leaves column j as it is, and none of it where the
+ * read was refused (of_buffer 0); else at the front of out, as many numbers as there are rows (of_buffer 1). */
+struct kw_part kw_view(size_t c, size_t m, const uint64_t *layer, size_t layer_len, const uint64_t *base, size_t n,
+                       size_t j, const uint64_t *out, size_t out_len);
 
 /* The shift at base position s, 0 to n: adds at positions up to s, less strikes before s. Refusals 1 2. */
 struct kw_shift kw_shift_at(size_t c, size_t n, size_t m, const uint64_t *layer, size_t layer_len, size_t s);
 
-/* The row number of base position s; of a struck row, that of the next shown row. Refusals 1 2. */
+/* The row number of base position s, 0 to n; of a struck row, that of the next shown row, or the row count where none follows.
+ * Refusals 1 2. */
 struct kw_answer kw_row(size_t c, size_t n, size_t m, const uint64_t *layer, size_t layer_len, size_t s);
 
 /* What row number r is: base row s, or KW_ADDED + i for the added entry number i. Refusals 1 2 5. */
 struct kw_answer kw_back(size_t c, size_t n, size_t m, const uint64_t *layer, size_t layer_len, size_t r);
 
-/* Adds a row of c numbers. Refusals 1 2 3 4 7 9 10. value: the new m. */
+/* THE EDITS alter the layer in place. Entries that they free become zero; what stood behind the layer, old and new, stays.
+ * Adds a row of c numbers. Refusals 1 2 3 4 7 9 10. value: the new m. */
 struct kw_answer kw_add(size_t c, size_t m, uint64_t *layer, size_t layer_len, const uint64_t *keys, size_t n,
                         const uint64_t *row, size_t row_len);
 
-/* Strikes row number r. Entries that this frees become zero. Refusals 1 2 3 4 5 9. value: the new m. */
+/* Strikes row number r: an added row's entry goes; a base row loses its changes and gains a strike. Refusals 1 2 3 4 5 9. value: the new m. */
 struct kw_answer kw_strike(size_t c, size_t m, uint64_t *layer, size_t layer_len, const uint64_t *keys, size_t n, size_t r);
 
 /* Changes column j of row number r to v. Refusals 1 2 3 4 5 6 9. value: the new m. */

@@ -1,6 +1,6 @@
 //! The calls as safe functions on slices: the archive's, with the prototypes of include/kwadirumpe.h, and those in plain C beside them.
 
-use crate::paper::Pair;
+use crate::scope::Pair;
 
 #[repr(C)]
 pub struct Answer {

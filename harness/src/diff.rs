@@ -1,6 +1,6 @@
-//! Differential tests: every call of the archive, and of plain C, beside the paper by brute force, on valid, damaged and extreme input.
+//! Differential tests: every call of the archive, and of plain C, beside the scope by brute force, on valid, damaged and extreme input.
 
-use crate::paper::{self, Entry, Pair};
+use crate::scope::{self, Entry, Pair};
 use crate::calls::{Calls, CARD, PLAIN};
 use crate::Rng;
 
@@ -116,22 +116,22 @@ fn row(rng: &mut Rng, c: usize, k: u64) -> Vec<u64> {
 fn good_layer(rng: &mut Rng, c: usize, keys: &[u64], steps: usize, wide: usize) -> Vec<Entry> {
     let mut layer: Vec<Entry> = Vec::new();
     for _ in 0..steps {
-        let shown = paper::column(&layer, keys, 0);
+        let shown = scope::column(&layer, keys, 0);
         let kind = rng.below(4);
         if kind < 2 {
             let k = key(rng, wide);
             if !shown.contains(&k) && shown.len() < 4096 && layer.len() < 512 {
                 let r = row(rng, c, k);
-                layer = paper::with_add(keys, &layer, &r);
+                layer = scope::with_add(keys, &layer, &r);
             }
         } else if !shown.is_empty() && layer.len() < 505 {
             let r = rng.below(shown.len());
             if kind == 2 {
-                layer = paper::with_strike(c, keys, &layer, r);
+                layer = scope::with_strike(c, keys, &layer, r);
             } else if c > 1 {
                 let j = 1 + rng.below(c - 1);
                 let v = rng.below(5) as u64;
-                layer = paper::with_change(c, keys, &layer, r, j, v);
+                layer = scope::with_change(c, keys, &layer, r, j, v);
             }
         }
     }
@@ -157,12 +157,12 @@ fn long_layer(rng: &mut Rng, c: usize, keys: &[u64], m: usize, grow: bool, side:
             continue;
         }
         if what == 0 && !grow && rows > 0 {
-            layer.push(Entry { pos: s as u64, kind: paper::STRIKE, vals: first(keys[s]) });
+            layer.push(Entry { pos: s as u64, kind: scope::STRIKE, vals: first(keys[s]) });
             rows -= 1;
         } else if what < 3 && c > 1 {
             layer.push(Entry { pos: s as u64, kind: 1 + rng.below(c - 1) as u64, vals: first(rng.next()) });
         } else if what < 5 && rows < 4096 && (s == 0 || keys[s - 1] + 1 < keys[s]) && keys[s] > 0 {
-            layer.push(Entry { pos: s as u64, kind: paper::ADD, vals: row(rng, c, keys[s] - 1) });
+            layer.push(Entry { pos: s as u64, kind: scope::ADD, vals: row(rng, c, keys[s] - 1) });
             rows += 1;
         }
         s += 1 + rng.below(3);
@@ -171,7 +171,7 @@ fn long_layer(rng: &mut Rng, c: usize, keys: &[u64], m: usize, grow: bool, side:
 }
 
 fn slice_of(rng: &mut Rng, c: usize, layer: &[Entry]) -> Vec<u64> {
-    let mut raw = paper::numbers(layer);
+    let mut raw = scope::numbers(layer);
     let spare = if rng.one_in(3) { 0 } else { rng.below(3 * (c + 2)) };
     raw.extend((0..spare).map(|_| rng.next() >> rng.below(64)));
     raw
@@ -188,7 +188,7 @@ fn small(rng: &mut Rng) -> Case {
     let (a, b, d) = (rng.below(9), rng.below(9), rng.below(9));
     let x = good_layer(rng, c, &keys, a, wide);
     let y = good_layer(rng, c, &keys, b, wide);
-    let w = good_layer(rng, c, &paper::column(&x, &keys, 0), d, wide);
+    let w = good_layer(rng, c, &scope::column(&x, &keys, 0), d, wide);
     Case {
         c,
         m: x.len(),
@@ -212,7 +212,7 @@ fn large(rng: &mut Rng, m: usize) -> Case {
     let apart = rng.one_in(2);
     let x = long_layer(rng, c, &keys, m, grow, if apart { 0 } else { 2 });
     let y = long_layer(rng, c, &keys, m, grow, if apart { 1 } else { 2 });
-    let between = paper::column(&x, &keys, 0);
+    let between = scope::column(&x, &keys, 0);
     let w = long_layer(rng, c, &between, m / 2, grow, 2);
     Case {
         c,
@@ -231,8 +231,8 @@ fn large(rng: &mut Rng, m: usize) -> Case {
 fn damage(rng: &mut Rng, case: &mut Case) {
     let odd = |rng: &mut Rng| match rng.below(6) {
         0 => rng.below(10) as u64,
-        1 => paper::ADD,
-        2 => paper::STRIKE,
+        1 => scope::ADD,
+        2 => scope::STRIKE,
         3 => rng.next(),
         4 => u64::MAX,
         _ => rng.below(3) as u64,
@@ -273,7 +273,7 @@ struct Trial<'a> {
 impl Trial<'_> {
     fn alike<T: PartialEq + std::fmt::Debug>(&self, who: &str, call: usize, args: &[usize], got: &T, want: &T) {
         let name = CALLS[call];
-        assert!(got == want, "{name} {args:?}: {who} gives {got:?}, the paper {want:?}, on {:?}", self.case);
+        assert!(got == want, "{name} {args:?}: {who} gives {got:?}, the scope {want:?}, on {:?}", self.case);
     }
 
     /// A call that only reads.
@@ -286,10 +286,10 @@ impl Trial<'_> {
 
     /// A call that writes one slice: each version on its own copy, and the guards looked at.
     fn writing(
-        &mut self, call: usize, args: &[usize], slice: &[u64], ask: impl Fn(&Calls, &mut [u64]) -> Pair, paper: impl Fn(&mut [u64]) -> Pair,
+        &mut self, call: usize, args: &[usize], slice: &[u64], ask: impl Fn(&Calls, &mut [u64]) -> Pair, scope: impl Fn(&mut [u64]) -> Pair,
     ) -> (Pair, Vec<u64>) {
         let mut after = slice.to_vec();
-        let want = paper(&mut after);
+        let want = scope(&mut after);
         for who in [&PLAIN, &CARD] {
             let mut copy = Guarded::new(slice);
             let got = ask(who, copy.inner());
@@ -322,7 +322,7 @@ fn try_all(rng: &mut Rng, case: &Case, report: &mut Report) {
     let (c, m, n) = (case.c, case.m, keys.len());
     let mut t = Trial { case, report };
 
-    let fit = t.reading(0, &[], |k| k.fit(c, m, layer, keys), paper::kw_fit(c, m, layer, keys));
+    let fit = t.reading(0, &[], |k| k.fit(c, m, layer, keys), scope::kw_fit(c, m, layer, keys));
     t.met(0, fit.0);
 
     let j = if rng.one_in(12) { c.wrapping_add(rng.below(2)) } else { rng.below(c.clamp(1, 8)) };
@@ -332,28 +332,28 @@ fn try_all(rng: &mut Rng, case: &Case, report: &mut Report) {
     let likely = n + m.min(512) + 2;
     let room = if rng.one_in(3) { rng.below(likely + 1) } else { likely };
     let buffer: Vec<u64> = (0..room).map(|_| rng.next()).collect();
-    let (read, shown) = t.writing(1, &[j, room], &buffer, |k, o| k.read(c, m, layer, base, j, o), |o| paper::kw_read(c, m, layer, base, j, o));
-    t.reading(2, &[j, room], |k| k.view(c, m, layer, base, j, &shown), paper::kw_view(c, m, layer, base, j, &shown));
+    let (read, shown) = t.writing(1, &[j, room], &buffer, |k, o| k.read(c, m, layer, base, j, o), |o| scope::kw_read(c, m, layer, base, j, o));
+    t.reading(2, &[j, room], |k| k.view(c, m, layer, base, j, &shown), scope::kw_view(c, m, layer, base, j, &shown));
     t.met(2, 0);
 
     let rows = if rng.one_in(20) { [4096, 4097, usize::MAX][rng.below(3)] } else { n };
     let s = about(rng, rows.min(4097));
-    let shift = t.reading(3, &[rows, s], |k| k.shift_at(c, rows, m, layer, s), paper::kw_shift_at(c, rows, m, layer, s));
+    let shift = t.reading(3, &[rows, s], |k| k.shift_at(c, rows, m, layer, s), scope::kw_shift_at(c, rows, m, layer, s));
     t.met(3, shift.0);
-    let at = t.reading(4, &[rows, s], |k| k.row(c, rows, m, layer, s), paper::kw_row(c, rows, m, layer, s));
+    let at = t.reading(4, &[rows, s], |k| k.row(c, rows, m, layer, s), scope::kw_row(c, rows, m, layer, s));
     t.met(4, at.0);
     let r = about(rng, if read.0 == 0 { (read.1 as usize).saturating_sub(1) } else { likely });
-    let back = t.reading(5, &[rows, r], |k| k.back(c, rows, m, layer, r), paper::kw_back(c, rows, m, layer, r));
+    let back = t.reading(5, &[rows, r], |k| k.back(c, rows, m, layer, r), scope::kw_back(c, rows, m, layer, r));
     t.met(5, back.0);
 
     let k = if n > 0 && rng.one_in(3) { keys[rng.below(n)] } else { key(rng, 40 + 10 * n) };
     let width = if rng.one_in(15) { c.wrapping_add(1).min(12) } else { c.min(12) };
     let mut new = row(rng, width.max(1), k);
     new.truncate(width);
-    t.writing(6, &[k as usize, width], layer, |k, l| k.add(c, m, l, keys, &new), |l| paper::kw_add(c, m, l, keys, &new));
-    t.writing(7, &[r], layer, |k, l| k.strike(c, m, l, keys, r), |l| paper::kw_strike(c, m, l, keys, r));
+    t.writing(6, &[k as usize, width], layer, |k, l| k.add(c, m, l, keys, &new), |l| scope::kw_add(c, m, l, keys, &new));
+    t.writing(7, &[r], layer, |k, l| k.strike(c, m, l, keys, r), |l| scope::kw_strike(c, m, l, keys, r));
     let v = rng.below(4) as u64;
-    t.writing(8, &[r, j], layer, |k, l| k.change(c, m, l, keys, r, j, v), |l| paper::kw_change(c, m, l, keys, r, j, v));
+    t.writing(8, &[r, j], layer, |k, l| k.change(c, m, l, keys, r, j, v), |l| scope::kw_change(c, m, l, keys, r, j, v));
 
     let whole = (m.min(512) + case.mw.min(512) + 1).min(513) * c.min(8).wrapping_add(2);
     let third: Vec<u64> = (0..if rng.one_in(3) { rng.below(whole + 1) } else { whole }).map(|_| rng.next()).collect();
@@ -362,14 +362,14 @@ fn try_all(rng: &mut Rng, case: &Case, report: &mut Report) {
         &[third.len()],
         &third,
         |k, o| k.combine(c, keys, m, layer, case.mw, upper, o),
-        |o| paper::kw_combine(c, keys, m, layer, case.mw, upper, o),
+        |o| scope::kw_combine(c, keys, m, layer, case.mw, upper, o),
     );
     let (moved, past) = t.writing(
         10,
         &[],
         layer,
         |k, l| k.move_past(c, keys, m, l, case.my, other),
-        |l| paper::kw_move(c, keys, m, l, case.my, other),
+        |l| scope::kw_move(c, keys, m, l, case.my, other),
     );
 
     let table = case.rows.len() == n && case.rows.iter().all(|r| r.len() == c);
@@ -388,8 +388,8 @@ fn try_all(rng: &mut Rng, case: &Case, report: &mut Report) {
         let first = read_table(c, m, &past, &read_table(c, case.my, other, &case.rows));
         let second = read_table(c, case.my, &theirs, &read_table(c, m, layer, &case.rows));
         t.alike("the one order", 10, &[], &first, &second);
-        let done = paper::table(&paper::entries(c, case.my, other), &case.rows);
-        t.alike("read after the move", 10, &[], &first, &paper::redone(keys, &paper::entries(c, m, layer), &done));
+        let done = scope::table(&scope::entries(c, case.my, other), &case.rows);
+        t.alike("read after the move", 10, &[], &first, &scope::redone(keys, &scope::entries(c, m, layer), &done));
     }
     for (slice, was) in lent.iter().zip([&case.layer, &case.keys, &case.other, &case.upper]).chain([(&guarded, &column)]) {
         assert!(slice.whole() && slice.shared() == &was[..], "a slice lent for reading has changed, on {case:?}");

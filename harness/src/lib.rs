@@ -1,8 +1,8 @@
-//! Compares the archive with an independent implementation of the paper.
+//! Compares the archive with an independent implementation of the scope.
 
 pub mod calls;
 pub mod diff;
-pub mod paper;
+pub mod scope;
 
 /// A small generator of numbers, so that a printed seed repeats a run.
 pub struct Rng(u64);

@@ -1,4 +1,4 @@
-//! `cargo run --release [SEED [CALLS]]`: compares every call of the archive with the paper by brute force, and says what was met.
+//! `cargo run --release [SEED [CALLS]]`: compares every call of the archive with the scope by brute force, and says what was met.
 
 use std::time::{SystemTime, UNIX_EPOCH};
 

@@ -1,4 +1,4 @@
-//! The archive and the paper answer alike, on a million calls and a seed of the day, and every refusal is met.
+//! The archive and the scope answer alike, on a million calls and a seed of the day, and every refusal is met.
 
 #[test]
 fn alike() {

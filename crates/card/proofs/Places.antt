@@ -8,6 +8,7 @@ use mathlib.Core.List.{List}
 use lib.ListN.{length}
 use lib.IntN.{ℤ, natAbs}
 use lib.Dec.{leb}
+use Rattle.order.proofs.Tests.{impossible}
 use Rattle.model.specs.Layer.{Layer, rowsAfter}
 use Rattle.model.specs.declared.Refusal.{Refusal}
 use Rattle.model.specs.declared.Answer.{Answer}
@@ -24,20 +25,13 @@ use Rattle.model.specs.Calls.{formAnswer, shiftAnswer, backAnswer, originAnswer
 use Rattle.model.proofs.Raw.{layer-length, form-place, args-held}
 use Rattle.model.proofs.Position.{back-added}
 use Rattle.model.proofs.Origin.{origin-added}
+use Rattle.model.proofs.Stages.{onward}
 use Rattle.form.proofs.Accepted.{accepted}
-use Rattle.place.specs.Checked.{checkedAt}
-use Rattle.place.proofs.Answers.{carried, done-at, shift-checked, shift-small, back-checked}
+use Rattle.position.proofs.Answers.{asked, back-checked}
 
 module _ (c n m : ℕ) (xs : List ℕ) (s : ℕ) where
   pub shift-by : (z : ℤ) → shiftAnswer c n m xs s ≡ shifted.By z → natAbs z ≤ 512
-  shift-by z e = go (checkedAt c n m xs s) refl (sym (shift-checked c n m xs s) ∙ e)
-    where
-      go : (a : Answer) → checkedAt c n m xs s ≡ a
-          → carried shifted.Refused (shifted.By (shift (layerOf c m xs) s)) a ≡ shifted.By z → natAbs z ≤ 512
-      go (Done k) f g =
-          let e : z ≡ shift (layerOf c m xs) s = cc in
-          rw e (shift-small c m xs s (done-at c n m xs s f .1 .held))
-      go (Refused x) f g = absurd (let w : _≡_ {A = ℕ} 0 1 = cc in omega arith)
+  shift-by z e = asked c n m xs s e .small
 
   pub shift-refused : (x : Refusal) → shiftAnswer c n m xs s ≡ shifted.Refused x → x .place ≤ 512
   unfolding shiftAnswer
@@ -52,7 +46,7 @@ module _ (c n m : ℕ) (xs : List ℕ) (s : ℕ) where
       go true h true true g =
           let w : x .place ≡ 0 + formPlace c n (entriesOf c m xs) = cc in
           omega (arith, w, form-place c n m xs, args-held c n m xs h .0 .entries)
-      go true h true false g = absurd (let w : _≡_ {A = ℕ} 0 1 = cc in omega arith)
+      go true h true false g = impossible (cc)
       go true h false d g = let w : x .place ≡ 0 = cc in omega (arith, w)
       go false h b d g = let w : x .place ≡ 0 = cc in omega (arith, w)
 
@@ -65,15 +59,15 @@ module _ (c n m : ℕ) (xs : List ℕ) (s : ℕ) where
 
       unless-past : (t : Bool) → cond t (backed.Refused (refusal 5 0)) (originAnswer (back n L s)) ≡ backed.Added i
           → back n L s ≡ added i
-      unless-past true g = absurd (let w : _≡_ {A = ℕ} 0 1 = cc in omega arith)
+      unless-past true g = impossible (cc)
       unless-past false g = origin-added (back n L s) i g
 
       go : (a : Answer) → formAnswer c n m xs ≡ a
-          → carried backed.Refused
-          (cond (leb (rowsAfter n L) s) (backed.Refused (refusal 5 0)) (originAnswer (back n L s))) a
+          → onward backed.Refused a
+          (cond (leb (rowsAfter n L) s) (backed.Refused (refusal 5 0)) (originAnswer (back n L s)))
           ≡ backed.Added i
           → i ≤ 512
       go (Done k) f g =
           let A = accepted c n m xs k f in
           omega (arith, back-added c n L (A .ordered) s i (unless-past (leb (rowsAfter n L) s) g) .1, A .size, A .held .entries)
-      go (Refused x) f g = absurd (let w : _≡_ {A = ℕ} 0 1 = cc in omega arith)
+      go (Refused x) f g = impossible (cc)

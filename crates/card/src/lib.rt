@@ -6,27 +6,24 @@ ghost use Prim.Native.Nat.{_+_, _≤_};
 ghost use lib.ListN.{length};
 ghost use lib.IntN.{pos};
 ghost use mathlib.Core.Path.{_≡_};
-ghost use Rattle.model.specs.Raw.{flat};
 ghost use Rattle.model.specs.Calls.{
-  edited,
-  addAnswer,
-  addedLayer,
-  strikeAnswer,
-  struckLayer,
-  changeAnswer,
-  changedLayer,
-  combineAnswer,
-  combinedLayer,
-  moveAnswer,
-  movedLayer,
   fitAnswer,
   readAnswer,
-  shownColumn,
-  written,
+  readSlice,
   viewPart,
   shiftAnswer,
   rowAnswer,
   backAnswer,
+  addAnswer,
+  addSlice,
+  strikeAnswer,
+  strikeSlice,
+  changeAnswer,
+  changeSlice,
+  combineAnswer,
+  combineSlice,
+  moveAnswer,
+  moveSlice,
 };
 ghost use Rattle.card.specs.Told.{Tells, TellsShift, TellsBack, TellsPart};
 
@@ -42,6 +39,13 @@ pub struct Told {
 pub struct ToldShift {
     pub number: u64,
     pub value: i64,
+}
+
+// The viewer's answer, which is no refusal: whether it is the front of the buffer, else a part of the base column; and its length.
+#[repr(C)]
+pub struct Part {
+    pub front: u64,
+    pub count: usize,
 }
 
 fn tell(a: Answer) -> Told
@@ -79,7 +83,7 @@ fn past_rows(i: usize) -> usize
 pub extern "C" fn kw_fit(c: usize, m: usize, layer: &[u64], keys: &[u64]) -> Told
     ensures { λ r. ⌜ Tells r (fitAnswer c m (now (layer .entry)) (now (keys .entry))) ⌝ }
 {
-    tell(form::fit(c, m, layer, keys))
+    tell(fit::fit(c, m, layer, keys))
 }
 
 #[no_mangle]
@@ -91,14 +95,13 @@ pub extern "C" fn kw_read(
     j: usize,
     out: &mut [u64],
 ) -> Told
-    ensures { λ r. ⌜ Tells r (readAnswer c m (now (layer .entry)) (now (base .entry)) j (length (now (out .entry))))
-        × (now (out .exit) ≡ written (readAnswer c m (now (layer .entry)) (now (base .entry)) j (length (now (out .entry))))
-        (shownColumn c m (now (layer .entry)) (now (base .entry)) j) (now (out .entry))) ⌝ }
+    ensures { λ r. ⌜ (let L = now (layer .entry) in let B = now (base .entry) in let O = now (out .entry) in
+        Tells r (readAnswer c m L B j (length O)) × (now (out .exit) ≡ readSlice c m L B j O)) ⌝ }
 {
     tell(read::read(c, m, layer, base, j, out))
 }
 
-// Which part the viewer hands back: number 0, a part of the base column, 1, the front of the buffer; and its length.
+// Which part the viewer hands back.
 #[no_mangle]
 pub extern "C" fn kw_view(
     c: usize,
@@ -107,14 +110,14 @@ pub extern "C" fn kw_view(
     base: &[u64],
     j: usize,
     out: &[u64],
-) -> Told
-    ensures { λ r. ⌜ TellsPart r (length (now (base .entry)))
-        (viewPart c m (now (layer .entry)) (now (base .entry)) j (length (now (out .entry)))) ⌝ }
+) -> Part
+    ensures { λ r. ⌜ (let B = now (base .entry) in
+        TellsPart r (length B) (viewPart c m (now (layer .entry)) B j (length (now (out .entry))))) ⌝ }
 {
-    let p = read::view_part(c, m, layer, base, j, out.len());
-    Told {
-        number: p.number(),
-        value: p.value(),
+    let p = view::view_part(c, m, layer, base, j, out.len());
+    Part {
+        front: p.number(),
+        count: p.value(),
     }
 }
 
@@ -122,7 +125,7 @@ pub extern "C" fn kw_view(
 pub extern "C" fn kw_shift_at(c: usize, n: usize, m: usize, layer: &[u64], s: usize) -> ToldShift
     ensures { λ r. ⌜ TellsShift r (shiftAnswer c n m (now (layer .entry)) s) ⌝ }
 {
-    let a = place::shift(c, n, m, layer, s);
+    let a = position::shift(c, n, m, layer, s);
     match a {
         Shifted::By(z) => ToldShift {
             number: 0,
@@ -139,7 +142,7 @@ pub extern "C" fn kw_shift_at(c: usize, n: usize, m: usize, layer: &[u64], s: us
 pub extern "C" fn kw_row(c: usize, n: usize, m: usize, layer: &[u64], s: usize) -> Told
     ensures { λ r. ⌜ Tells r (rowAnswer c n m (now (layer .entry)) s) ⌝ }
 {
-    tell(place::row(c, n, m, layer, s))
+    tell(position::row(c, n, m, layer, s))
 }
 
 // Back from row number r: value s for base row s, 65536 + i for the added entry number i.
@@ -147,7 +150,7 @@ pub extern "C" fn kw_row(c: usize, n: usize, m: usize, layer: &[u64], s: usize) 
 pub extern "C" fn kw_back(c: usize, n: usize, m: usize, layer: &[u64], r: usize) -> Told
     ensures { λ o. ⌜ TellsBack o (backAnswer c n m (now (layer .entry)) r) ⌝ }
 {
-    let a = place::back(c, n, m, layer, r);
+    let a = position::back(c, n, m, layer, r);
     match a {
         Back::Base(s) => Told {
             number: 0,
@@ -166,18 +169,16 @@ pub extern "C" fn kw_back(c: usize, n: usize, m: usize, layer: &[u64], r: usize)
 
 #[no_mangle]
 pub extern "C" fn kw_add(c: usize, m: usize, layer: &mut [u64], keys: &[u64], row: &[u64]) -> Told
-    ensures { λ o. ⌜ Tells o (addAnswer c m (now (layer .entry)) (now (keys .entry)) (now (row .entry)))
-        × (now (layer .exit) ≡ edited c m (addAnswer c m (now (layer .entry)) (now (keys .entry)) (now (row .entry)))
-        (addedLayer c m (now (layer .entry)) (now (keys .entry)) (now (row .entry))) (now (layer .entry))) ⌝ }
+    ensures { λ o. ⌜ (let L = now (layer .entry) in let K = now (keys .entry) in let R = now (row .entry) in
+        Tells o (addAnswer c m L K R) × (now (layer .exit) ≡ addSlice c m L K R)) ⌝ }
 {
     tell(edit::add(c, m, layer, keys, row))
 }
 
 #[no_mangle]
 pub extern "C" fn kw_strike(c: usize, m: usize, layer: &mut [u64], keys: &[u64], r: usize) -> Told
-    ensures { λ o. ⌜ Tells o (strikeAnswer c m (now (layer .entry)) (now (keys .entry)) r)
-        × (now (layer .exit) ≡ edited c m (strikeAnswer c m (now (layer .entry)) (now (keys .entry)) r)
-        (struckLayer c m (now (layer .entry)) (now (keys .entry)) r) (now (layer .entry))) ⌝ }
+    ensures { λ o. ⌜ (let L = now (layer .entry) in let K = now (keys .entry) in
+        Tells o (strikeAnswer c m L K r) × (now (layer .exit) ≡ strikeSlice c m L K r)) ⌝ }
 {
     tell(edit::strike(c, m, layer, keys, r))
 }
@@ -192,9 +193,8 @@ pub extern "C" fn kw_change(
     j: usize,
     v: u64,
 ) -> Told
-    ensures { λ o. ⌜ Tells o (changeAnswer c m (now (layer .entry)) (now (keys .entry)) r j v)
-        × (now (layer .exit) ≡ edited c m (changeAnswer c m (now (layer .entry)) (now (keys .entry)) r j v)
-        (changedLayer c m (now (layer .entry)) (now (keys .entry)) r j v) (now (layer .entry))) ⌝ }
+    ensures { λ o. ⌜ (let L = now (layer .entry) in let K = now (keys .entry) in
+        Tells o (changeAnswer c m L K r j v) × (now (layer .exit) ≡ changeSlice c m L K r j v)) ⌝ }
 {
     tell(edit::change(c, m, layer, keys, r, j, v))
 }
@@ -209,9 +209,9 @@ pub extern "C" fn kw_combine(
     w: &[u64],
     out: &mut [u64],
 ) -> Told
-    ensures { λ o. ⌜ Tells o (combineAnswer c (now (keys .entry)) mr (now (r .entry)) mw (now (w .entry)) (length (now (out .entry))))
-        × (now (out .exit) ≡ written (combineAnswer c (now (keys .entry)) mr (now (r .entry)) mw (now (w .entry)) (length (now (out .entry))))
-        (flat c (combinedLayer c (now (keys .entry)) mr (now (r .entry)) mw (now (w .entry)))) (now (out .entry))) ⌝ }
+    ensures { λ o. ⌜ (let K = now (keys .entry) in let R = now (r .entry) in let W = now (w .entry) in
+        let O = now (out .entry) in
+        Tells o (combineAnswer c K mr R mw W (length O)) × (now (out .exit) ≡ combineSlice c K mr R mw W O)) ⌝ }
 {
     tell(combine::combine(c, keys, mr, r, mw, w, out))
 }
@@ -225,9 +225,8 @@ pub extern "C" fn kw_move(
     my: usize,
     y: &[u64],
 ) -> Told
-    ensures { λ r. ⌜ Tells r (moveAnswer c (now (keys .entry)) mx (now (x .entry)) my (now (y .entry)))
-        × (now (x .exit) ≡ written (moveAnswer c (now (keys .entry)) mx (now (x .entry)) my (now (y .entry)))
-        (flat c (movedLayer c mx (now (x .entry)) my (now (y .entry)))) (now (x .entry))) ⌝ }
+    ensures { λ r. ⌜ (let K = now (keys .entry) in let X = now (x .entry) in let Y = now (y .entry) in
+        Tells r (moveAnswer c K mx X my Y) × (now (x .exit) ≡ moveSlice c K mx X my Y)) ⌝ }
 {
     tell(pass::move_past(c, keys, mx, x, my, y))
 }

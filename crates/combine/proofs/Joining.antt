@@ -1,56 +1,39 @@
--- Two layers that fit are joined: what the walk needs, that it leaves the combination, and what the join answers and
--- writes.
+-- Two layers that fit are joined: what the walk needs, that it leaves the combination, and what is answered then.
 -- Assumes nothing.
-use mathlib.Core.Path.{_≡_, refl, sym, ap, subst, _∙_}
+use mathlib.Core.Path.{_≡_, sym, ap, subst, _∙_}
 use mathlib.Core.Bool.{true, false}
-use mathlib.Core.List.{List, [], _++_}
+use mathlib.Core.List.{List, _++_}
 use Prim.Native.Nat.{ℕ, _+_, _*_, _≤_}
 use native.Mathlib.Omega.{arith}
 use lib.ListN.{length, drop}
 use lib.Dec.{ltb}
-use borrow.Author.Tests.{eq-eqb, ltb-false, le-ltb}
-use Rattle.order.proofs.Pairs.{broken-le}
+use borrow.Author.Tests.{ltb-false, le-ltb}
+use Rattle.model.specs.declared.Answer.{Answer}
 use Rattle.model.specs.declared.Answer.the-variants.{Done, Refused}
 use Rattle.model.specs.Limits.{mostRows}
 use Rattle.model.specs.Layer.{Layer, rowsAfter}
 use Rattle.model.specs.Raw.{layerOf, flat, room}
-use Rattle.model.specs.Fit.{suits, rises, fitPlace, fits}
 use Rattle.model.specs.Read.{keysAfter}
 use Rattle.model.specs.Redo.{combine}
 use Rattle.model.specs.Refusals.{refusal}
-use Rattle.model.specs.Calls.{formAnswer}
-use Rattle.form.specs.InForm.{InForm}
+use Rattle.model.specs.Calls.{formAnswer, combineRows, combineAnswer, combineSlice, combinedLayer, written}
+use Rattle.model.proofs.Stages.{reached, stage-passed}
 use Rattle.form.proofs.Accepted.{Accepted, accepted}
-use Rattle.read.proofs.Ready.{ready}
-use Rattle.read.proofs.Rows.{rows-shown}
-use Rattle.write.proofs.Layers.{sound-wide, flat-length}
 use Rattle.write.proofs.Laws.{in-room}
-use Rattle.combine.specs.Woven.{wovenLayer}
-use Rattle.combine.specs.Walk.{Named, Both, Woven}
-use Rattle.combine.specs.Rows.{joinAnswer, Forms, Fits}
-use Rattle.combine.proofs.Combined.{Combines, combines}
+use Rattle.over.specs.Over.{Named}
+use Rattle.woven.specs.Woven.{wovenLayer}
+use Rattle.woven.proofs.Combined.{Combines, combines}
+use Rattle.turn.specs.Turn.{Both}
+use Rattle.weave.specs.Written.{Woven}
+use Rattle.combine.specs.Checked.{bothAnswer, Fits}
+use Rattle.combine.proofs.Answers.{after-both, all-fit}
 
--- no edit breaks a rule of fit
-pub fits-of : (K : List ℕ) (L : Layer) (m : ℕ) → length L ≡ m → m ≤ fitPlace K L → fits K L ≡ true
-unfolding fits fitPlace
-fits-of K L m l h = eq-eqb (fitPlace K L) (length L) (omega (arith, broken-le (suits K L) rises [] L))
+-- what both layers make together
+abbrev pub whole : ℕ → List ℕ → ℕ → List ℕ → ℕ → List ℕ → Layer
+whole c K mR rawR mW rawW =
+    wovenLayer K (keysAfter K (layerOf c mR rawR)) (layerOf c mR rawR) (layerOf c mW rawW)
 
--- as many keys as rows
-pub mid-rows : {c : ℕ} {K : List ℕ} {mR : ℕ} {rawR : List ℕ} {mW : ℕ} {rawW : List ℕ} → Forms c K mR rawR mW rawW
-    → (N : List ℕ)
-    → N ≡ keysAfter K (layerOf c mR rawR) → rowsAfter (length K) (layerOf c mR rawR) ≡ length N
-mid-rows {c} {K} {mR} {rawR} f N e =
-    let R = layerOf c mR rawR in
-    let a = accepted c (length K) mR rawR (rowsAfter (length K) R) (f .lower) in
-    sym (ap length e ∙ rows-shown 0 K R (ready c (length K) 0 R (a .each) (a .pairs)))
-
--- so the upper layer is in form over them
-pub upper-form : {c : ℕ} {K : List ℕ} {mR : ℕ} {rawR : List ℕ} {mW : ℕ} {rawW : List ℕ} → Forms c K mR rawR mW rawW
-    → (N : List ℕ)
-    → N ≡ keysAfter K (layerOf c mR rawR) → InForm c (length N) mW rawW
-upper-form {c} {K} {mR} {rawR} {mW} {rawW} f N e =
-    subst (λ (n : ℕ). formAnswer c n mW rawW ≡ Done (rowsAfter n (layerOf c mW rawW))) (mid-rows f N e) (f .upper)
-
+-- two layers that fit
 module _ {c : ℕ} {K : List ℕ} {mR : ℕ} {rawR : List ℕ} {mW : ℕ} {rawW : List ℕ} (f : Fits c K mR rawR mW rawW) where
   abbrev R : Layer
   R = layerOf c mR rawR
@@ -70,53 +53,82 @@ module _ {c : ℕ} {K : List ℕ} {mR : ℕ} {rawR : List ℕ} {mW : ℕ} {rawW 
   pub up : Accepted c (rowsAfter (length K) R) mW rawW (rowsAfter (rowsAfter (length K) R) W)
   up = accepted c (rowsAfter (length K) R) mW rawW (rowsAfter (rowsAfter (length K) R) W) (f .forms .upper)
 
-  pub columns : c ≤ 8
-  columns = low .held .columns
-
-  pub both : (names : List ℕ) → Named c N mW rawW names → mW ≤ length names → Both c K N mR rawR mW rawW names
-  both names h l = record {
-    lower = f .forms .lower ∙ ap Done (mid-rows (f .forms) N refl);
-    upper = upper-form (f .forms) N refl;
-    named = h;
-    room = l;
-  }
-
   pub joins : Combines c K R W
-  joins = combines c K R W (f .rising) (low .ordered) (fits-of K R mR (low .size) (f .lower)) (up .ordered)
-      (fits-of N W mW (up .size) (f .upper))
-
-  same : wovenLayer K N R W ≡ M
-  same = joins .same
-
-  pub flat-size : length (flat c M) ≡ length M * (c + 2)
-  flat-size = flat-length c M (λ e m. sound-wide c (length K) (low .held .some) e (joins .each e m))
+  joins = combines c K R W (f .rising) (low .ordered) (f .lower) (up .ordered) (f .upper)
 
   pub rows-few : rowsAfter (length K) M ≤ 4096
   rows-few = omega (arith, joins .rows, up .few)
 
+  pub both : (names : List ℕ) → Named c N mW rawW names → 512 ≤ length names → Both c K N mR rawR mW rawW names
+  both names h l = record {
+    lower = f .forms .lower ∙ ap Done (sym (joins .shown));
+    upper = subst (λ (n : ℕ). formAnswer c n mW rawW ≡ Done (rowsAfter n W)) (sym (joins .shown)) (f .forms .upper);
+    named = h;
+    room = omega (arith, up .held .entries);
+  }
+
+-- the call, once both layers are checked
+module _ (c : ℕ) (K : List ℕ) (mR : ℕ) (rawR : List ℕ) (mW : ℕ) (rawW out : List ℕ) (k : ℕ)
+    (h : bothAnswer c K mR rawR mW rawW ≡ Done k) where
+  abbrev made : Layer
+  made = whole c K mR rawR mW rawW
+
+  pub fit : Fits c K mR rawR mW rawW
+  fit = all-fit c K mR rawR mW rawW k h
+
+  same : made ≡ combinedLayer c K mR rawR mW rawW
+  same = joins fit .same
+
   -- refusal 9
-  pub short : (len : ℕ) → ltb (room c len) (length (wovenLayer K N R W)) ≡ true
-      → Refused (refusal 9 0) ≡ joinAnswer c K mR rawR mW rawW len
-  unfolding joinAnswer
-  short len h = rw (subst (λ (L : Layer). ltb (room c len) (length L) ≡ true) same h)
+  pub short : ltb (room c (length out)) (length made) ≡ true
+      → Refused (refusal 9 0) ≡ combineAnswer c K mR rawR mW rawW (length out)
+  short t =
+      sym (after-both c K mR rawR mW rawW (length out)
+      ∙ rw (h, subst (λ (L : Layer). ltb (room c (length out)) (length L) ≡ true) same t))
 
-  -- there is room
-  module _ (len : ℕ) (h : ltb (room c len) (length (wovenLayer K N R W)) ≡ false) where
-    pub there : length (wovenLayer K N R W) * (c + 2) ≤ len
-    there =
-        let m = length (wovenLayer K N R W) in
-        (in-room c len m (omega (arith, ltb-false (room c len) m h))) .1
+  -- there is room, and refusal 10 is not met
+  module _ (t : ltb (room c (length out)) (length made) ≡ false) where
+    pub there : length made * (c + 2) ≤ length out
+    there = in-room c (length out) (length made) (omega (arith, ltb-false (room c (length out)) (length made) t)) .1
 
-    -- refusal 10 is not met
-    pub enough : (m : ℕ) → length (wovenLayer K N R W) ≡ m → Done m ≡ joinAnswer c K mR rawR mW rawW len
-    unfolding joinAnswer
-    enough m e = rw (
-      subst (λ (L : Layer). ltb (room c len) (length L) ≡ false) same h,
-      le-ltb mostRows (rowsAfter (length K) M) rows-few,
-      sym e ∙ ap length same,
-    )
+    pub enough : (m : ℕ) → length made ≡ m → Done m ≡ combineAnswer c K mR rawR mW rawW (length out)
+    enough m e =
+        sym (after-both c K mR rawR mW rawW (length out)
+        ∙ rw (
+          h,
+          subst (λ (L : Layer). ltb (room c (length out)) (length L) ≡ false) same t,
+          le-ltb mostRows (rowsAfter (length K) (combinedLayer c K mR rawR mW rawW)) (rows-few fit),
+          sym (ap length same),
+          e,
+        ))
 
-  -- what is written
-  pub written-whole : (m : ℕ) (old new : List ℕ) → Woven c (wovenLayer K N R W) m old new
-      → new ≡ flat c M ++ drop (length (flat c M)) old
-  written-whole m old new g = g .all ∙ ap (λ (L : Layer). flat c L ++ drop (length (flat c L)) old) same
+    pub written-whole : (m : ℕ) (old new : List ℕ) → old ≡ out → Woven c made m old new
+        → new ≡ combineSlice c K mR rawR mW rawW out
+    written-whole m old new e g =
+        g .all
+        ∙ ((λ i. flat c (same i) ++ drop (length (flat c (same i))) (e i))
+        ∙ ap (λ (a : Answer). written a (flat c (combinedLayer c K mR rawR mW rawW)) out) (enough m (g .entries)))
+
+-- what is refused leaves the slice
+pub kept : (c : ℕ) (K : List ℕ) (mR : ℕ) (rawR : List ℕ) (mW : ℕ) (rawW out : List ℕ) (a : Answer)
+    → a ≡ combineAnswer c K mR rawR mW rawW (length out)
+    → written a (flat c (combinedLayer c K mR rawR mW rawW)) out ≡ combineSlice c K mR rawR mW rawW out
+kept c K mR rawR mW rawW out a e = ap (λ (t : Answer). written t (flat c (combinedLayer c K mR rawR mW rawW)) out) e
+
+-- what an accepted combination has passed
+pub record Accepts (c : ℕ) (K : List ℕ) (mR : ℕ) (rawR : List ℕ) (mW : ℕ) (rawW : List ℕ) (len m : ℕ) : Type 0 where
+  pub fit : Fits c K mR rawR mW rawW
+  pub size : length (combinedLayer c K mR rawR mW rawW) ≡ m
+  pub room-left : m ≤ room c len
+
+pub accepts : (c : ℕ) (K : List ℕ) (mR : ℕ) (rawR : List ℕ) (mW : ℕ) (rawW : List ℕ) (len m : ℕ)
+    → combineAnswer c K mR rawR mW rawW len ≡ Done m → Accepts c K mR rawR mW rawW len m
+accepts c K mR rawR mW rawW len m h =
+    let L = combinedLayer c K mR rawR mW rawW in
+    let w = reached (bothAnswer c K mR rawR mW rawW) (sym (after-both c K mR rawR mW rawW len) ∙ h) in
+    let p = stage-passed (combineRows c len K (layerOf c mR rawR) (layerOf c mW rawW)) (length L) m (w .2) in
+    record {
+      fit = all-fit c K mR rawR mW rawW (w .0) (w .1);
+      size = p .1;
+      room-left = omega (arith, ltb-false (room c len) (length L) (p .0 .0), p .1);
+    }

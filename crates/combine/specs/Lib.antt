@@ -1,5 +1,1 @@
-pub mod Woven
-pub mod Walk
-pub mod Over
-pub mod Rows
-pub mod Promises
+pub mod Checked

@@ -1,69 +1,20 @@
-// Two layers into one: a walk along both by key, straight into the third slice once it is known that there is room.
-mod over;
-mod tally;
-mod weave;
-
+// Two layers combined into one, in a third slice: checked first, counted where they may not fit, then written in one walk.
 use model::Answer;
-use model::MOST_ENTRIES;
-use model::Refusal;
 ghost use mathlib.Core.Path.{_≡_};
 ghost use Prim.Native.Nat.{_≤_};
+ghost use lib.Dec.{ltb};
 ghost use lib.ListN.{length};
-ghost use Rattle.model.specs.declared.Answer.the-variants.{Refused};
-ghost use Rattle.model.specs.Refusals.{refusal};
+ghost use Rattle.model.specs.declared.Answer.the-variants.{Done};
 ghost use Rattle.model.specs.Layer.{rowsAfter};
-ghost use Rattle.model.specs.Raw.{layerOf, flat, room};
-ghost use Rattle.model.specs.Calls.{combineAnswer, combinedLayer, written};
-ghost use Rattle.combine.specs.Over.{over};
-ghost use Rattle.combine.specs.Walk.{Named};
-ghost use Rattle.combine.specs.Rows.{joinAnswer, fitsAnswer, Forms, Fits};
+ghost use Rattle.model.specs.Raw.{layerOf};
+ghost use Rattle.model.specs.Calls.{combineAnswer, combineSlice};
+ghost use Rattle.woven.specs.Woven.{wovenLayer};
+ghost use Rattle.over.specs.Over.{over};
+ghost use Rattle.turn.specs.Turn.{Both};
+ghost use Rattle.combine.specs.Checked.{fitsAnswer, bothAnswer, Forms, NamedIf};
 
-// The room of a slice of len numbers: the smaller of 512 and the whole entries that it can hold.
-fn room_of(c: usize, len: usize) -> usize
-    requires { ⌜ c ≤ 8 ⌝ }
-    ensures { λ r. ⌜ r ≡ room c len ⌝ }
-{
-    let whole = len / (c + 2);
-    if whole < MOST_ENTRIES {
-        return whole;
-    }
-    MOST_ENTRIES
-}
-
-// A refusal with its number and place.
-fn refused(number: u64, place: usize) -> Answer
-    ensures { λ r. ⌜ r ≡ Refused (refusal number place) ⌝ }
-{
-    Answer::Refused(Refusal { number, place })
-}
-
-// Joins two layers that fit in the third slice, where there is room for the result. The upper layer's entries concern the
-// keys `names`.
-fn join(
-    c: usize,
-    keys: &[u64],
-    names: &[u64],
-    mr: usize,
-    r: &[u64],
-    mw: usize,
-    w: &[u64],
-    out: &mut [u64],
-) -> Answer
-    requires { ⌜ Fits c (now keys) mr (now r) mw (now w)
-        × Named c (over c (now keys) mr (now r)) mw (now w) (now names) × (mw ≤ length (now names)) ⌝ }
-    ensures { λ a. ⌜ (a ≡ joinAnswer c (now (keys .entry)) mr (now (r .entry)) mw (now (w .entry))
-        (length (now (out .entry))))
-        × (now (out .exit) ≡ written a (flat c (combinedLayer c (now (keys .entry)) mr (now (r .entry)) mw (now (w .entry))))
-        (now (out .entry))) ⌝ }
-{
-    let room = room_of(c, out.len());
-    if tally::more_than(room, c, keys, names, mr, r, mw, w) {
-        return refused(9, 0);
-    }
-    Answer::Done(weave::weave(c, keys, names, mr, r, mw, w, out))
-}
-
-// Joins two layers in form where the keys ascend and both fit, the upper one to the keys of the rows that the lower leaves.
+// Refusals 3 and 4 of two layers in form: keys, fit, the upper one to the keys of the rows that the lower leaves. Where none
+// is met, the upper layer's entries concern the keys `names`.
 fn fit_both(
     c: usize,
     keys: &[u64],
@@ -72,27 +23,75 @@ fn fit_both(
     rows: usize,
     mw: usize,
     w: &[u64],
-    out: &mut [u64],
+    names: &mut [u64],
 ) -> Answer
-    requires { ⌜ Forms c (now keys) mr (now r) mw (now w) × (rows ≡ rowsAfter (length (now keys)) (layerOf c mr (now r))) ⌝ }
-    ensures { λ a. ⌜ (a ≡ fitsAnswer c (now (keys .entry)) mr (now (r .entry)) mw (now (w .entry))
-        (length (now (out .entry))))
-        × (now (out .exit) ≡ written a (flat c (combinedLayer c (now (keys .entry)) mr (now (r .entry)) mw (now (w .entry))))
-        (now (out .entry))) ⌝ }
+    requires { ⌜ Forms c (now keys) mr (now r) mw (now w) × (rows ≡ rowsAfter (length (now keys)) (layerOf c mr (now r)))
+        × (512 ≤ length (now names)) ⌝ }
+    ensures { λ a. ⌜ (let K = now (keys .entry) in let R = now (r .entry) in let W = now (w .entry) in
+        (a ≡ fitsAnswer c K mr R mw W) × NamedIf a c K mr R mw W (now (names .exit))) ⌝ }
 {
-    if !form::keys_ascend(keys) {
-        return refused(3, 0);
+    if !keys::ascend(keys) {
+        return Answer::refused(3, 0);
     }
-    let p = form::fit_place(c, mr, r, keys);
+    let p = fit::fit_place(c, mr, r, keys);
     if p < mr {
-        return refused(4, p);
+        return Answer::refused(4, p);
     }
-    let mut names: [u64; 512] = [0; 512];
-    let q = over::fit_over(c, keys, mr, r, rows, mw, w, &mut names);
+    let q = over::fit_over(c, keys, mr, r, rows, mw, w, names);
     if q < mw {
-        return refused(4, 1000 + q);
+        return Answer::refused(4, 1000 + q);
     }
-    join(c, keys, &names, mr, r, mw, w, out)
+    Answer::Done(0)
+}
+
+// Refusals 1 to 4 of two layers.
+fn check_both(
+    c: usize,
+    keys: &[u64],
+    mr: usize,
+    r: &[u64],
+    mw: usize,
+    w: &[u64],
+    names: &mut [u64],
+) -> Answer
+    requires { ⌜ 512 ≤ length (now names) ⌝ }
+    ensures { λ a. ⌜ (let K = now (keys .entry) in let R = now (r .entry) in let W = now (w .entry) in
+        (a ≡ bothAnswer c K mr R mw W) × NamedIf a c K mr R mw W (now (names .exit))) ⌝ }
+{
+    let n = keys.len();
+    if !(form::args_ok(c, n, mr, r.len()) & form::args_ok(c, n, mw, w.len())) {
+        return Answer::refused(1, 0);
+    }
+    match form::check(c, n, mr, r) {
+        Answer::Refused(x) => Answer::Refused(x),
+        Answer::Done(rows) => match form::check(c, rows, mw, w) {
+            Answer::Refused(y) => Answer::refused(y.number, 1000 + y.place),
+            Answer::Done(_) => fit_both(c, keys, mr, r, rows, mw, w, names),
+        },
+    }
+}
+
+// Both layers make more entries than so many: counted only where they have more together. The slice stays as it is.
+fn more_than(
+    room: usize,
+    c: usize,
+    keys: &[u64],
+    names: &[u64],
+    mr: usize,
+    r: &[u64],
+    mw: usize,
+    w: &[u64],
+    out: &mut [u64],
+) -> bool
+    requires { ⌜ Both c (now keys) (over c (now keys) mr (now r)) mr (now r) mw (now w) (now names) ⌝ }
+    ensures { λ b. ⌜ (let K = now (keys .entry) in (b ≡ ltb room (length (wovenLayer K (over c K mr (now (r .entry)))
+        (layerOf c mr (now (r .entry))) (layerOf c mw (now (w .entry))))))
+        × (now (out .exit) ≡ now (out .entry))) ⌝ }
+{
+    if mr + mw <= room {
+        return false;
+    }
+    room < weave::weave(false, c, keys, names, mr, r, mw, w, out)
 }
 
 // Combines the lower layer R over the base keys and the upper layer W over what R shows into one layer over the base,
@@ -106,20 +105,19 @@ pub fn combine(
     w: &[u64],
     out: &mut [u64],
 ) -> Answer
-    ensures { λ a. ⌜ (a ≡ combineAnswer c (now (keys .entry)) mr (now (r .entry)) mw (now (w .entry))
-        (length (now (out .entry))))
-        × (now (out .exit) ≡ written a (flat c (combinedLayer c (now (keys .entry)) mr (now (r .entry)) mw (now (w .entry))))
-        (now (out .entry))) ⌝ }
+    ensures { λ a. ⌜ (let K = now (keys .entry) in let R = now (r .entry) in let W = now (w .entry) in
+        (a ≡ combineAnswer c K mr R mw W (length (now (out .entry))))
+        × (now (out .exit) ≡ combineSlice c K mr R mw W (now (out .entry)))) ⌝ }
 {
-    let n = keys.len();
-    if !(form::args_ok(c, n, mr, r.len()) & form::args_ok(c, n, mw, w.len())) {
-        return refused(1, 0);
-    }
-    match form::check(c, n, mr, r) {
+    let mut names: [u64; 512] = [0; 512];
+    match check_both(c, keys, mr, r, mw, w, &mut names) {
         Answer::Refused(x) => Answer::Refused(x),
-        Answer::Done(rows) => match form::check(c, rows, mw, w) {
-            Answer::Refused(y) => refused(y.number, 1000 + y.place),
-            Answer::Done(_) => fit_both(c, keys, mr, r, rows, mw, w, out),
-        },
+        Answer::Done(_) => {
+            let room = write::room_of(c, out.len());
+            if more_than(room, c, keys, &names, mr, r, mw, w, out) {
+                return Answer::refused(9, 0);
+            }
+            Answer::Done(weave::weave(true, c, keys, &names, mr, r, mw, w, out))
+        }
     }
 }

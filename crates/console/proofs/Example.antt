@@ -1,4 +1,4 @@
--- The paper's example of a printed table: antt computes what is printed, and the table that the lines make.
+-- The scope's example of a printed table: antt computes what is printed, and the table that the lines make.
 -- Assumes nothing.
 use mathlib.Core.Path.{_≡_, refl}
 use mathlib.Core.List.{[], _∷_}
@@ -10,13 +10,13 @@ use Rattle.model.specs.Position.{origins}
 use Rattle.model.specs.Edits.{addRow, strikeBase, strikeRow}
 use Rattle.model.specs.Refusals.{breaksForm}
 use Rattle.model.specs.Calls.{formAnswer, addAnswer, strikeAnswer}
-use Rattle.line.specs.Number.{isNumber}
+use Rattle.decimal.specs.Number.{isNumber}
 use Rattle.line.specs.Line.{fields, lineOf}
-use Rattle.line.specs.Decimal.{digitsWithin, digits, decimal}
-use Rattle.console.specs.Text.{message, rowText, tableText}
-use Rattle.console.specs.Desk.{heard, after}
-use Rattle.console.specs.Input.{bytesIn, inputEnds, linesFrom, linesOf}
-use Rattle.console.specs.Shown.{rowsOf, ending}
+use Rattle.decimal.specs.Decimal.{digitsWithin, digits, decimal}
+use Rattle.text.specs.Text.{message, rowText, tableText}
+use Rattle.hear.specs.Heard.{heard, after}
+use Rattle.feed.specs.Input.{bytesIn, inputEnds, linesFrom, linesOf}
+use Rattle.show.specs.Shown.{rowsOf, ending}
 use Rattle.console.specs.Standing.{nothingRead}
 use Rattle.console.specs.Told.{tableIn, printed, zeros, exampleInput, exampleOutput}
 

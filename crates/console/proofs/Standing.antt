@@ -19,41 +19,27 @@ use Rattle.model.specs.Row.{Table, key, keys}
 use Rattle.model.specs.Cell.{to}
 use Rattle.model.specs.Layer.{Layer, rowsAfter}
 use Rattle.model.specs.Raw.{layerOf, entriesAt, flat, room}
+use Rattle.model.specs.Fit.{fitPlace}
 use Rattle.model.specs.Form.{formPlace, argsOk}
 use Rattle.model.specs.Refusals.{breaksForm}
 use Rattle.model.specs.Steps.{Step as Wish, adding, striking, changing, stepOn}
 use Rattle.model.specs.Calls.{edited, formAnswer, fitAnswer}
-use Rattle.form.proofs.Answers.{fit-accepted}
-use Rattle.form.proofs.Accepted.{Fitted, fitted}
+use Rattle.fit.specs.Ready.{Ready}
+use Rattle.fit.proofs.Answers.{ready-done, fit-done, fitted, ready-form}
 use Rattle.edit.specs.Runs.{stepAnswer, stepSlice}
 use Rattle.edit.proofs.Accepting.{Accepts, accepts}
 use Rattle.edit.proofs.Laws.{edit-layer, edit-next}
 use Rattle.line.specs.declared.Line.{Line}
 use Rattle.line.specs.declared.Line.the-variants.{Base, Add, Strike, Change, Unreadable}
 use Rattle.line.specs.Line.{lineOf}
-use Rattle.console.specs.declared.Said.the-variants.{Unread, Refused}
-use Rattle.console.specs.declared.Desk.{Desk}
-use Rattle.console.specs.Desk.{
-  Sheet,
-  Roomy,
-  mostBase,
-  baseKeys,
-  belowLast,
-  shut,
-  stay,
-  grown,
-  baseStep,
-  baseTaken,
-  entered,
-  heard,
-  withRow,
-  withLayer,
-  after,
-}
-use Rattle.console.specs.Input.{Reading, lineIn, linesIn}
-use Rattle.console.specs.Shown.{baseTable}
-use Rattle.console.specs.Standing.{emptyDesk, nothingRead, deskLayer, Standing}
-use Rattle.console.proofs.Printed.{Columns, columns}
+use Rattle.text.specs.declared.Said.the-variants.{Unread, Refused}
+use Rattle.base.specs.declared.Counts.{Counts}
+use Rattle.base.specs.Base.{Sheet, sheetOf, Roomy, mostBase, baseKeys, belowLast, shut, stay, grown, baseReply, baseTaken, withRow}
+use Rattle.hear.specs.Heard.{entered, heard, withLayer, after}
+use Rattle.feed.specs.Input.{Reading, lineIn, linesIn}
+use Rattle.show.specs.Shown.{baseTable}
+use Rattle.console.specs.Standing.{atStart, nothingRead, sheetLayer, Standing}
+use Rattle.show.proofs.Printed.{Columns, columns}
 
 -- ascending keys with a higher one behind them
 rising-more : (k : ℕ) (K : List ℕ) (g : ℕ) → rising k K ≡ true → getD (k ∷ K) (length K) 0 < g → rising k (K ++ (g ∷ [])) ≡ true
@@ -88,7 +74,9 @@ empty-form raw n h =
     )
 
 empty-fits : (raw K : List ℕ) → length K ≤ mostBase → ascending K ≡ true → fitAnswer 3 0 raw K ≡ answer.Done 0
-empty-fits raw K h a = sym (fit-accepted 3 0 raw K (length K) (empty-form raw (length K) h) a (omega arith))
+empty-fits raw K h a =
+    sym (fit-done 3 0 raw K (length K)
+    (sym (ready-done 3 0 raw K (length K) (empty-form raw (length K) h) a (fitPlace K (layerOf 3 0 raw)) refl (omega arith))))
 
 -- An accepted edit leaves a slice of the same length.
 module _ (m : ℕ) (raw : List ℕ) (T : Table) (w : Wish) (k : ℕ) (h : stepAnswer 3 m raw (keys T) w ≡ answer.Done k) where
@@ -101,13 +89,13 @@ module _ (m : ℕ) (raw : List ℕ) (T : Table) (w : Wish) (k : ℕ) (h : stepAn
   A : Accepts 3 m raw T w k
   A = accepts 3 m raw T w k h
 
-  F : Fitted 3 k new (keys T)
-  F = fitted 3 k new (keys T) (edit-next 3 m raw T w k h)
+  F : Ready 3 k new (keys T)
+  F = fitted 3 k new (keys T) 0 (edit-next 3 m raw T w k h)
 
   numbers-size : length (flat 3 M) ≡ k * 5
   numbers-size =
       ap (λ (L : Layer). length (flat 3 L)) (sym (edit-layer 3 m raw T w k h))
-      ∙ (ap length (F .form .numbers) ∙ length-take-le (k * 5) new (F .form .held .room))
+      ∙ (ap length (ready-form F .numbers) ∙ length-take-le (k * 5) new (ready-form F .held .room))
 
   within : k * 5 ≤ length raw
   unfolding room
@@ -129,15 +117,15 @@ module _ (m : ℕ) (raw : List ℕ) (T : Table) (w : Wish) (k : ℕ) (h : stepAn
 
 -- What every line keeps: the columns hold 512 rows and the slice its length, the fit check accepts the layer, and the
 -- layer is empty while base rows are taken.
-pub record Kept (len : ℕ) (d : Desk) (x : Sheet) : Type 0 where
-  pub roomy : Roomy d (x .keys) (x .sources) (x .masks)
+pub record Kept (len : ℕ) (d : Counts) (x : Sheet) : Type 0 where
+  pub roomy : Roomy d x
   pub size : length (x .layer) ≡ len
   pub held : d .entries ≤ room 3 len
   pub accepted : fitAnswer 3 (d .entries) (x .layer) (baseKeys d x) ≡ answer.Done 0
   pub early : d .edited ≡ false → d .entries ≡ 0
 
 -- nothing but the count of lines, and whether an edit line was read
-lined : {len : ℕ} {d d′ : Desk} {x : Sheet} → Kept len d x → d′ .rows ≡ d .rows → d′ .entries ≡ d .entries →
+lined : {len : ℕ} {d d′ : Counts} {x : Sheet} → Kept len d x → d′ .rows ≡ d .rows → d′ .entries ≡ d .entries →
     (d′ .edited ≡ false → d .edited ≡ false) → Kept len d′ x
 lined {len} {d} {d′} {x} s r e f = record {
   roomy = record {
@@ -153,7 +141,7 @@ lined {len} {d} {d′} {x} s r e f = record {
 }
 
 -- the base columns and keys
-module _ (d : Desk) (x : Sheet) (R : Roomy d (x .keys) (x .sources) (x .masks)) where
+module _ (d : Counts) (x : Sheet) (R : Roomy d x) where
   pub sized : (K : List ℕ) → length K ≡ mostBase → length (take (d .rows) K) ≡ d .rows
   sized K e = length-take-le (d .rows) K (omega (arith, R .standing))
 
@@ -170,17 +158,17 @@ module _ (d : Desk) (x : Sheet) (R : Roomy d (x .keys) (x .sources) (x .masks)) 
   keys-are = columns-are .zeroth
 
 -- an edit line
-module _ {len : ℕ} {d : Desk} {x : Sheet} (s : Kept len d x) (w : Wish) where
+module _ {len : ℕ} {d : Counts} {x : Sheet} (s : Kept len d x) (w : Wish) where
   abbrev told : Answer
   told = stepAnswer 3 (d .entries) (x .layer) (baseKeys d x) w
 
   abbrev slice : Answer → List ℕ
-  slice a = edited 3 (d .entries) a (stepOn (baseKeys d x) w (deskLayer d x)) (x .layer)
+  slice a = edited 3 (d .entries) a (stepOn (baseKeys d x) w (sheetLayer d x)) (x .layer)
 
-  edit-kept : Kept len (entered d told .desk) (withLayer x (slice told))
+  edit-kept : Kept len (entered d told .counts) (withLayer x (slice told))
   edit-kept = go told refl
     where
-      go : (a : Answer) → told ≡ a → Kept len (entered d a .desk) (withLayer x (slice a))
+      go : (a : Answer) → told ≡ a → Kept len (entered d a .counts) (withLayer x (slice a))
       go (answer.Refused q) e = lined s refl refl (λ h. absurd (true≢false h))
       go (answer.Done k) e =
           let T = baseTable d x in
@@ -203,8 +191,8 @@ pub one-more : (X : List ℕ) (n v : ℕ) → length X ≡ mostBase → n < most
 one-more X n v e h = rw (add-one n) (take-suc-set X n v (omega arith))
 
 -- a base row
-module _ {len : ℕ} {d : Desk} {x : Sheet} (s : Kept len d x) (g v m : ℕ) where
-  taken-kept : shut d ≡ false → belowLast g (d .rows) (x .keys) ≡ false → Kept len (grown d .desk) (withRow true (d .rows) x g v m)
+module _ {len : ℕ} {d : Counts} {x : Sheet} (s : Kept len d x) (g v m : ℕ) where
+  taken-kept : shut d ≡ false → belowLast g (d .rows) (x .keys) ≡ false → Kept len (grown d .counts) (withRow true (d .rows) x g v m)
   taken-kept o b =
       let n = d .rows in
       let q = or-false (d .edited) (leb mostBase n) o in
@@ -214,7 +202,7 @@ module _ {len : ℕ} {d : Desk} {x : Sheet} (s : Kept len d x) (g v m : ℕ) whe
       let z = sized d x (s .roomy) (x .keys) (s .roomy .inKeys) in
       let e = one-more (x .keys) n g (s .roomy .inKeys) f in
       let a : ascending (K ++ (g ∷ [])) ≡ true =
-      ascending-more K g (fitted 3 (d .entries) (x .layer) K (s .accepted) .rising) last in
+      ascending-more K g (fitted 3 (d .entries) (x .layer) K 0 (s .accepted) .keys) last in
       record {
         roomy = record {
           standing = omega arith;
@@ -234,17 +222,17 @@ module _ {len : ℕ} {d : Desk} {x : Sheet} (s : Kept len d x) (g v m : ℕ) whe
           let z = sized d x (s .roomy) (x .keys) (s .roomy .inKeys) in
           rw z (last-below (d .rows) (x .keys) g (omega arith) b)
 
-  base-kept : Kept len (baseStep g d (x .keys) .desk) (withRow (baseTaken g d (x .keys)) (d .rows) x g v m)
+  base-kept : Kept len (baseReply g d (x .keys) .counts) (withRow (baseTaken g d (x .keys)) (d .rows) x g v m)
   base-kept = go (shut d) (belowLast g (d .rows) (x .keys)) refl refl
     where
       go : (t u : Bool) → shut d ≡ t → belowLast g (d .rows) (x .keys) ≡ u →
-          Kept len (cond t (stay d Unread) (cond u (stay d (Refused 3)) (grown d)) .desk) (withRow (not (t || u)) (d .rows) x g v m)
+          Kept len (cond t (stay d Unread) (cond u (stay d (Refused 3)) (grown d)) .counts) (withRow (not (t || u)) (d .rows) x g v m)
       go true u e f = lined s refl refl (λ h. h)
       go false true e f = lined s refl refl (λ h. h)
       go false false e f = taken-kept e f
 
 -- any line, and any lines
-pub line-kept : (l : Line) {len : ℕ} {d : Desk} {x : Sheet} → Kept len d x → Kept len (heard l d x .desk) (after l d x)
+pub line-kept : (l : Line) {len : ℕ} {d : Counts} {x : Sheet} → Kept len d x → Kept len (heard l d x .counts) (after l d x)
 unfolding heard after
 line-kept (Base g v m) s = base-kept s g v m
 line-kept (Add g v m) s = edit-kept s (adding (g ∷ v ∷ m ∷ []))
@@ -252,14 +240,22 @@ line-kept (Strike r) s = edit-kept s (striking r)
 line-kept (Change r j v) s = edit-kept s (changing r j (to v))
 line-kept Unreadable s = lined s refl refl (λ h. h)
 
-lines-kept : (ls : List (List ℕ)) {len : ℕ} (i : Reading) → Kept len (i .desk) (i .sheet) →
-    Kept len (linesIn ls i .desk) (linesIn ls i .sheet)
+lines-kept : (ls : List (List ℕ)) {len : ℕ} (i : Reading) → Kept len (i .counts) (i .sheet) →
+    Kept len (linesIn ls i .counts) (linesIn ls i .sheet)
 unfolding linesIn
 lines-kept [] i s = s
 lines-kept (l ∷ ls) i s = lines-kept ls (lineIn l i) (line-kept (lineOf l) s)
 
--- before the first line
-pub start-kept : (x : Sheet) → Roomy emptyDesk (x .keys) (x .sources) (x .masks) → Kept (length (x .layer)) emptyDesk x
+-- before the first line the program's table has room for 512 base rows
+pub table-roomy : (table layer : List ℕ) → length table ≡ 1536 → Roomy atStart (sheetOf table layer)
+table-roomy table layer h = record {
+  standing = omega arith;
+  inKeys = length-take-le mostBase table (omega arith);
+  inSources = length-take-le mostBase (drop 512 table) (omega (arith, length-drop 512 table));
+  inMasks = length-take-le mostBase (drop 1024 table) (omega (arith, length-drop 1024 table));
+}
+
+pub start-kept : (x : Sheet) → Roomy atStart x → Kept (length (x .layer)) atStart x
 start-kept x R = record {
   roomy = R;
   size = refl;
@@ -269,26 +265,26 @@ start-kept x R = record {
 }
 
 -- what is kept is what is to stand
-standing : {len : ℕ} {d : Desk} {x : Sheet} → Kept len d x → Standing d x
+standing : {len : ℕ} {d : Counts} {x : Sheet} → Kept len d x → Standing d x
 standing {len} {d} {x} s =
-    let F = fitted 3 (d .entries) (x .layer) (baseKeys d x) (s .accepted) in
+    let F = fitted 3 (d .entries) (x .layer) (baseKeys d x) 0 (s .accepted) in
     let n = sized d x (s .roomy) (x .keys) (s .roomy .inKeys) in
     record {
       roomy = s .roomy;
-      rising = F .rising;
+      rising = F .keys;
       held = rw (s .size) (s .held);
-      form = rw n at (F .form .kept);
+      form = rw n at (ready-form F .kept);
       fit = F .fit;
       accepted = s .accepted;
     }
 
 -- Any lines, from the empty table and layer on.
-module _ (x : Sheet) (R : Roomy emptyDesk (x .keys) (x .sources) (x .masks)) (ls : List (List ℕ)) where
-  all-kept : Kept (length (x .layer)) (linesIn ls (nothingRead x) .desk) (linesIn ls (nothingRead x) .sheet)
+module _ (x : Sheet) (R : Roomy atStart x) (ls : List (List ℕ)) where
+  all-kept : Kept (length (x .layer)) (linesIn ls (nothingRead x) .counts) (linesIn ls (nothingRead x) .sheet)
   all-kept = lines-kept ls (nothingRead x) (start-kept x R)
 
   -- the base keys ascend, and the layer keeps form and fits
-  pub always-good : Standing (linesIn ls (nothingRead x) .desk) (linesIn ls (nothingRead x) .sheet)
+  pub always-good : Standing (linesIn ls (nothingRead x) .counts) (linesIn ls (nothingRead x) .sheet)
   always-good = standing all-kept
 
   -- the layer's slice has the room that it had

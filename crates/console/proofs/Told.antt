@@ -24,30 +24,14 @@ use Rattle.edit.proofs.Laws.{edit-reads}
 use Rattle.line.specs.declared.Line.{Line}
 use Rattle.line.specs.declared.Line.the-variants.{Base, Add, Strike, Change, Unreadable}
 use Rattle.line.specs.Line.{lineOf}
-use Rattle.console.specs.declared.Said.the-variants.{Unread, Refused}
-use Rattle.console.specs.declared.Desk.{Desk}
-use Rattle.console.specs.Desk.{
-  Sheet,
-  Roomy,
-  mostBase,
-  baseKeys,
-  belowLast,
-  shut,
-  stay,
-  grown,
-  entered,
-  added,
-  struck,
-  changed,
-  heard,
-  withRow,
-  withLayer,
-  after,
-}
-use Rattle.console.specs.Input.{Reading, lineIn, linesIn, linesOf}
-use Rattle.console.specs.Text.{header, tableText}
-use Rattle.console.specs.Shown.{rowsOf, baseTable, shownTable}
-use Rattle.console.specs.Standing.{emptyDesk, nothingRead, deskLayer}
+use Rattle.text.specs.declared.Said.the-variants.{Unread, Refused}
+use Rattle.base.specs.declared.Counts.{Counts}
+use Rattle.base.specs.Base.{Sheet, Roomy, mostBase, baseKeys, belowLast, shut, stay, grown, withRow}
+use Rattle.hear.specs.Heard.{entered, added, struck, changed, heard, withLayer, after}
+use Rattle.feed.specs.Input.{Reading, lineIn, linesIn, linesOf}
+use Rattle.text.specs.Text.{header, tableText}
+use Rattle.show.specs.Shown.{rowsOf, baseTable, shownTable}
+use Rattle.console.specs.Standing.{atStart, nothingRead, sheetLayer}
 use Rattle.console.specs.Told.{deedDone, ifSilent, tableIn, printed}
 use Rattle.console.proofs.Lines.{input-heard}
 use Rattle.console.proofs.Standing.{Kept, as-long, keys-are, one-more, line-kept, start-kept}
@@ -70,10 +54,10 @@ empty-shown : (T : Table) (m : ℕ) (raw : List ℕ) → m ≡ 0 → read T (lay
 unfolding layerOf entriesAt
 empty-shown T m raw e = rw e (empty-reads T)
 
-module _ {len : ℕ} {d : Desk} {x : Sheet} (k : Kept len d x) where
+module _ {len : ℕ} {d : Counts} {x : Sheet} (k : Kept len d x) where
   -- an edit line
   edit-shown : (w : Wish) (a : Answer) → stepAnswer 3 (d .entries) (x .layer) (baseKeys d x) w ≡ a →
-      shownTable (entered d a .desk) (withLayer x (edited 3 (d .entries) a (stepOn (baseKeys d x) w (deskLayer d x)) (x .layer)))
+      shownTable (entered d a .counts) (withLayer x (edited 3 (d .entries) a (stepOn (baseKeys d x) w (sheetLayer d x)) (x .layer)))
       ≡ ifSilent (entered d a .said) (stepBy w (shownTable d x)) (shownTable d x)
   edit-shown w (answer.Refused q) e = refl
   edit-shown w (answer.Done n) e =
@@ -83,7 +67,7 @@ module _ {len : ℕ} {d : Desk} {x : Sheet} (k : Kept len d x) where
   -- a base row
   module _ (g s m : ℕ) where
     taken-shown : shut d ≡ false →
-        shownTable (grown d .desk) (withRow true (d .rows) x g s m) ≡ shownTable d x ++ ((g ∷ s ∷ m ∷ []) ∷ [])
+        shownTable (grown d .counts) (withRow true (d .rows) x g s m) ≡ shownTable d x ++ ((g ∷ s ∷ m ∷ []) ∷ [])
     taken-shown o =
         let n = d .rows in
         let q = or-false (d .edited) (leb mostBase n) o in
@@ -97,12 +81,12 @@ module _ {len : ℕ} {d : Desk} {x : Sheet} (k : Kept len d x) where
         let groups = one-more (x .keys) n g (R .inKeys) below in
         let sources = one-more (x .sources) n s (R .inSources) below in
         let masks = one-more (x .masks) n m (R .inMasks) below in
-        empty-shown (baseTable (grown d .desk) (withRow true n x g s m)) (d .entries) (x .layer) none
+        empty-shown (baseTable (grown d .counts) (withRow true n x g s m)) (d .entries) (x .layer) none
         ∙ (rw (groups, sources, masks) more
         ∙ ap (λ (T : Table). T ++ ((g ∷ s ∷ m ∷ []) ∷ [])) (sym (empty-shown (baseTable d x) (d .entries) (x .layer) none)))
 
     base-shown : (t u : Bool) → shut d ≡ t →
-        shownTable (cond t (stay d Unread) (cond u (stay d (Refused 3)) (grown d)) .desk) (withRow (not (t || u)) (d .rows) x g s m)
+        shownTable (cond t (stay d Unread) (cond u (stay d (Refused 3)) (grown d)) .counts) (withRow (not (t || u)) (d .rows) x g s m)
         ≡ ifSilent (cond t (stay d Unread) (cond u (stay d (Refused 3)) (grown d)) .said)
         (shownTable d x ++ ((g ∷ s ∷ m ∷ []) ∷ [])) (shownTable d x)
     base-shown true u e = refl
@@ -110,8 +94,8 @@ module _ {len : ℕ} {d : Desk} {x : Sheet} (k : Kept len d x) where
     base-shown false false e = taken-shown e
 
 -- any line, and any lines
-line-shown : (l : Line) {len : ℕ} {d : Desk} {x : Sheet} → Kept len d x →
-    shownTable (heard l d x .desk) (after l d x) ≡ ifSilent (heard l d x .said) (deedDone l (shownTable d x)) (shownTable d x)
+line-shown : (l : Line) {len : ℕ} {d : Counts} {x : Sheet} → Kept len d x →
+    shownTable (heard l d x .counts) (after l d x) ≡ ifSilent (heard l d x .said) (deedDone l (shownTable d x)) (shownTable d x)
 unfolding heard after
 line-shown (Base g s m) {d = d} {x = x} k = base-shown k g s m (shut d) (belowLast g (d .rows) (x .keys)) refl
 line-shown (Add g s m) {d = d} {x = x} k = edit-shown k (adding (g ∷ s ∷ m ∷ [])) (added d x (g ∷ s ∷ m ∷ [])) refl
@@ -119,17 +103,17 @@ line-shown (Strike r) {d = d} {x = x} k = edit-shown k (striking r) (struck d x 
 line-shown (Change r j v) {d = d} {x = x} k = edit-shown k (changing r j (to v)) (changed d x r j v) refl
 line-shown Unreadable k = refl
 
-lines-shown : (ls : List (List ℕ)) {len : ℕ} (i : Reading) → Kept len (i .desk) (i .sheet) →
-    shownTable (linesIn ls i .desk) (linesIn ls i .sheet) ≡ tableIn ls i (shownTable (i .desk) (i .sheet))
+lines-shown : (ls : List (List ℕ)) {len : ℕ} (i : Reading) → Kept len (i .counts) (i .sheet) →
+    shownTable (linesIn ls i .counts) (linesIn ls i .sheet) ≡ tableIn ls i (shownTable (i .counts) (i .sheet))
 unfolding linesIn tableIn
 lines-shown [] i k = refl
 lines-shown (l ∷ ls) i k =
     lines-shown ls (lineIn l i) (line-kept (lineOf l) k) ∙ ap (tableIn ls (lineIn l i)) (line-shown (lineOf l) k)
 
 -- Any lines, from the empty table and layer on.
-module _ (x : Sheet) (R : Roomy emptyDesk (x .keys) (x .sources) (x .masks)) where
+module _ (x : Sheet) (R : Roomy atStart x) where
   pub table-told : (ls : List (List ℕ)) →
-      shownTable (linesIn ls (nothingRead x) .desk) (linesIn ls (nothingRead x) .sheet) ≡ tableIn ls (nothingRead x) []
+      shownTable (linesIn ls (nothingRead x) .counts) (linesIn ls (nothingRead x) .sheet) ≡ tableIn ls (nothingRead x) []
   unfolding rowsOf
   table-told ls =
       lines-shown ls (nothingRead x) (start-kept x R) ∙ ap (tableIn ls (nothingRead x)) (empty-shown [] 0 (x .layer) refl)
@@ -141,5 +125,5 @@ module _ (x : Sheet) (R : Roomy emptyDesk (x .keys) (x .sources) (x .masks)) whe
   unfolding printed
   all-printed bs =
       let said = linesIn (linesOf bs) (nothingRead x) .text in
-      rw (input-heard bs emptyDesk x []) (ap (λ (t : List ℕ). said ++ t) (whole-table-printed x R (linesOf bs) .text)
+      rw (input-heard bs atStart x []) (ap (λ (t : List ℕ). said ++ t) (whole-table-printed x R (linesOf bs) .text)
       ∙ ap (λ (T : Table). said ++ (header ++ tableText 0 T)) (table-told (linesOf bs)))

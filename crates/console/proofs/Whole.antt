@@ -16,25 +16,24 @@ use Rattle.model.proofs.Fit.{Good, good-of, keys-length}
 use Rattle.model.proofs.Count.{read-length, read-ascends}
 use Rattle.model.proofs.Column.{Wide, read-wide}
 use Rattle.read.proofs.Answers.{enough}
-use Rattle.edit.specs.Ready.{withRows, readyAnswer}
-use Rattle.edit.proofs.Answered.{ready-of}
-use Rattle.console.specs.declared.Desk.{Desk}
-use Rattle.console.specs.Desk.{Sheet, baseKeys, Roomy}
-use Rattle.console.specs.Input.{bytesIn, inputEnds, linesIn, linesOf}
-use Rattle.console.specs.Text.{header, tableText}
-use Rattle.console.specs.Shown.{baseTable, shownTable, ending, ifFormed, Formed}
-use Rattle.console.specs.Standing.{emptyDesk, nothingRead, deskLayer, Standing, WholeTable}
-use Rattle.console.proofs.Printed.{ReadColumns, read-columns, rows-wide}
+use Rattle.fit.proofs.Answers.{fitted}
+use Rattle.base.specs.declared.Counts.{Counts}
+use Rattle.base.specs.Base.{Sheet, baseKeys, Roomy}
+use Rattle.feed.specs.Input.{bytesIn, inputEnds, linesIn, linesOf}
+use Rattle.text.specs.Text.{header, tableText}
+use Rattle.show.specs.Shown.{baseTable, shownTable, ending, ifFormed, Formed}
+use Rattle.console.specs.Standing.{atStart, nothingRead, sheetLayer, Standing, WholeTable}
+use Rattle.show.proofs.Printed.{ReadColumns, read-columns, rows-wide}
 use Rattle.console.proofs.Lines.{input-heard}
 use Rattle.console.proofs.Standing.{sized, as-long, keys-are, always-good}
 
 -- Where base rows and layer are as they are to be, the whole table is printed.
-module _ (d : Desk) (x : Sheet) (s : Standing d x) where
+module _ (d : Counts) (x : Sheet) (s : Standing d x) where
   abbrev T : Table
   T = baseTable d x
 
   abbrev L : Layer
-  L = deskLayer d x
+  L = sheetLayer d x
 
   C : ReadColumns (take (d .rows) (x .keys)) (take (d .rows) (x .sources)) (take (d .rows) (x .masks)) L
   C =
@@ -58,10 +57,8 @@ module _ (d : Desk) (x : Sheet) (s : Standing d x) where
   rows = read-length T L (good .fit) ∙ ap (λ (n : ℕ). rowsAfter n L) base-rows
 
   form-done : Formed (length (shownTable d x)) (d .rows) (d .entries) (x .layer)
-  unfolding readyAnswer
   form-done =
-      let R = ready-of 3 (d .entries) (x .layer) (baseKeys d x) (rowsAfter (length (baseKeys d x)) L)
-      (ap (withRows (rowsAfter (length (baseKeys d x)) L)) (s .accepted)) .0 in
+      let R = fitted 3 (d .entries) (x .layer) (baseKeys d x) 0 (s .accepted) in
       rw (sized d x (s .roomy) (x .keys) (s .roomy .inKeys), ← rows) at (R .form)
 
   whole-table : WholeTable d x
@@ -78,13 +75,13 @@ module _ (d : Desk) (x : Sheet) (s : Standing d x) where
   }
 
 -- Any lines, from the empty table and layer on.
-module _ (x : Sheet) (R : Roomy emptyDesk (x .keys) (x .sources) (x .masks)) where
+module _ (x : Sheet) (R : Roomy atStart x) where
   pub whole-table-printed : (ls : List (List ℕ)) →
-      WholeTable (linesIn ls (nothingRead x) .desk) (linesIn ls (nothingRead x) .sheet)
+      WholeTable (linesIn ls (nothingRead x) .counts) (linesIn ls (nothingRead x) .sheet)
   whole-table-printed ls =
-      whole-table (linesIn ls (nothingRead x) .desk) (linesIn ls (nothingRead x) .sheet) (always-good x R ls)
+      whole-table (linesIn ls (nothingRead x) .counts) (linesIn ls (nothingRead x) .sheet) (always-good x R ls)
 
   -- any bytes, taken as the program takes them
   pub input-printed : (bs : List ℕ) →
-      WholeTable (inputEnds (bytesIn bs (nothingRead x)) .desk) (inputEnds (bytesIn bs (nothingRead x)) .sheet)
-  input-printed bs = rw (input-heard bs emptyDesk x []) (whole-table-printed (linesOf bs))
+      WholeTable (inputEnds (bytesIn bs (nothingRead x)) .counts) (inputEnds (bytesIn bs (nothingRead x)) .sheet)
+  input-printed bs = rw (input-heard bs atStart x []) (whole-table-printed (linesOf bs))

@@ -13,37 +13,37 @@ use Rattle.model.specs.Form.{keepsForm}
 use Rattle.model.specs.Fit.{fits}
 use Rattle.model.specs.Read.{readColumn}
 use Rattle.model.specs.Calls.{fitAnswer, readAnswer}
-use Rattle.console.specs.declared.Desk.{Desk}
-use Rattle.console.specs.Desk.{Sheet, baseKeys, Roomy}
-use Rattle.console.specs.Input.{Reading}
-use Rattle.console.specs.Text.{header, tableText}
-use Rattle.console.specs.Shown.{Formed, shownTable, ending}
+use Rattle.base.specs.declared.Counts.{Counts}
+use Rattle.base.specs.Base.{Sheet, baseKeys, Roomy}
+use Rattle.feed.specs.Input.{Reading}
+use Rattle.text.specs.Text.{header, tableText}
+use Rattle.show.specs.Shown.{Formed, shownTable, ending}
 
 -- before the first line: no base row, no entry, no line read, nothing said
-abbrev pub emptyDesk : Desk
-emptyDesk = record { rows = 0; entries = 0; edited = false; lines = 0 }
+abbrev pub atStart : Counts
+atStart = record { rows = 0; entries = 0; edited = false; lines = 0 }
 
 abbrev pub nothingRead : Sheet → Reading
-nothingRead x = record { desk = emptyDesk; sheet = x; line = []; text = [] }
+nothingRead x = record { counts = atStart; sheet = x; line = []; text = [] }
 
--- the layer of the desk
-abbrev pub deskLayer : Desk → Sheet → Layer
-deskLayer d x = layerOf 3 (d .entries) (x .layer)
+-- the layer that stands
+abbrev pub sheetLayer : Counts → Sheet → Layer
+sheetLayer d x = layerOf 3 (d .entries) (x .layer)
 
 -- base rows and layer are as they are to be
-pub record Standing (d : Desk) (x : Sheet) : Type 0 where
+pub record Standing (d : Counts) (x : Sheet) : Type 0 where
   -- at most 512 base rows, with room for 512; their keys strictly ascend
-  pub roomy : Roomy d (x .keys) (x .sources) (x .masks)
+  pub roomy : Roomy d x
   pub rising : ascending (baseKeys d x) ≡ true
   -- the layer has at most its room of entries, keeps form over the base rows, and fits their keys
   pub held : d .entries ≤ room 3 (length (x .layer))
-  pub form : keepsForm 3 (d .rows) (deskLayer d x) ≡ true
-  pub fit : fits (baseKeys d x) (deskLayer d x) ≡ true
+  pub form : keepsForm 3 (d .rows) (sheetLayer d x) ≡ true
+  pub fit : fits (baseKeys d x) (sheetLayer d x) ≡ true
   -- so the fit check accepts its slice: an edit is refused for its own wish alone
   pub accepted : fitAnswer 3 (d .entries) (x .layer) (baseKeys d x) ≡ Done 0
 
 -- what is printed is the whole table
-pub record WholeTable (d : Desk) (x : Sheet) : Type 0 where
+pub record WholeTable (d : Counts) (x : Sheet) : Type 0 where
   -- the header, and one line for each row of the base table read through the layer
   pub text : ending d x ≡ header ++ tableText 0 (shownTable d x)
   -- the form check counts those rows, and reading a column to a buffer that holds them is not refused
@@ -54,6 +54,6 @@ pub record WholeTable (d : Desk) (x : Sheet) : Type 0 where
   pub three : (r : Row) → Mem r (shownTable d x) → length r ≡ 3
   pub rising : ascending (column 0 (shownTable d x)) ≡ true
   -- the values are those of the three columns read one by one
-  pub groups : column 0 (shownTable d x) ≡ readColumn 0 (take (d .rows) (x .keys)) (deskLayer d x)
-  pub sources : column 1 (shownTable d x) ≡ readColumn 1 (take (d .rows) (x .sources)) (deskLayer d x)
-  pub masks : column 2 (shownTable d x) ≡ readColumn 2 (take (d .rows) (x .masks)) (deskLayer d x)
+  pub groups : column 0 (shownTable d x) ≡ readColumn 0 (take (d .rows) (x .keys)) (sheetLayer d x)
+  pub sources : column 1 (shownTable d x) ≡ readColumn 1 (take (d .rows) (x .sources)) (sheetLayer d x)
+  pub masks : column 2 (shownTable d x) ≡ readColumn 2 (take (d .rows) (x .masks)) (sheetLayer d x)

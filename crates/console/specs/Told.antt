@@ -9,12 +9,13 @@ use Rattle.model.specs.Steps.{adding, striking, changing, stepBy}
 use Rattle.line.specs.declared.Line.{Line}
 use Rattle.line.specs.declared.Line.the-variants.{Base, Add, Strike, Change, Unreadable}
 use Rattle.line.specs.Line.{lineOf}
-use Rattle.console.specs.declared.Said.{Said}
-use Rattle.console.specs.declared.Said.the-variants.{Nothing, Unread, Refused}
-use Rattle.console.specs.Desk.{Sheet, sheetOf, mostBase, heard}
-use Rattle.console.specs.Input.{Reading, lineIn, bytesIn, inputEnds}
-use Rattle.console.specs.Text.{header}
-use Rattle.console.specs.Shown.{ending}
+use Rattle.text.specs.declared.Said.{Said}
+use Rattle.text.specs.declared.Said.the-variants.{Nothing, Unread, Refused}
+use Rattle.base.specs.Base.{Sheet, sheetOf}
+use Rattle.hear.specs.Heard.{heard}
+use Rattle.feed.specs.Input.{Reading, lineIn, bytesIn, inputEnds}
+use Rattle.text.specs.Text.{header}
+use Rattle.show.specs.Shown.{ending}
 use Rattle.console.specs.Standing.{nothingRead}
 
 -- a base row behind the others; a row more, in key order; row r struck; column j of row r changed
@@ -34,15 +35,15 @@ ifSilent (Refused n) T U = U
 unfoldable pub tableIn : List (List ℕ) → Reading → Table → Table
 tableIn [] i T = T
 tableIn (l ∷ ls) i T =
-    tableIn ls (lineIn l i) (ifSilent (heard (lineOf l) (i .desk) (i .sheet) .said) (deedDone (lineOf l) T) T)
+    tableIn ls (lineIn l i) (ifSilent (heard (lineOf l) (i .counts) (i .sheet) .said) (deedDone (lineOf l) T) T)
 
 -- all that is printed for an input: what its lines say, then the table
 unfoldable pub printed : List ℕ → Sheet → List ℕ
-printed bs x = let i = inputEnds (bytesIn bs (nothingRead x)) in i .text ++ ending (i .desk) (i .sheet)
+printed bs x = let i = inputEnds (bytesIn bs (nothingRead x)) in i .text ++ ending (i .counts) (i .sheet)
 
--- The paper's example, with the program's numbers, all zero before the first line.
+-- The scope's example, with the program's numbers, all zero before the first line.
 abbrev pub zeros : Sheet
-zeros = sheetOf (replicate mostBase 0) (replicate mostBase 0) (replicate mostBase 0) (replicate 2560 0)
+zeros = sheetOf (replicate 1536 0) (replicate 2560 0)
 
 -- `B 10 1 1`, `B 20 1 2`, `+ 15 2 4`, `- 0`, `- 2`
 abbrev pub exampleInput : List ℕ

@@ -1,7 +1,6 @@
 // The calls: each takes the case's numbers, the slice that it is lent to alter (or to look at), and two or three more.
-use crate::numbers::get;
-use crate::numbers::list;
-use crate::say;
+use numbers::get;
+use numbers::list;
 
 fn arg(args: &[u64], i: usize) -> usize {
     get(args, i) as usize
@@ -9,7 +8,7 @@ fn arg(args: &[u64], i: usize) -> usize {
 
 // fit c m ; layer ; keys
 fn fit(args: &[u64], layer: &[u64], keys: &[u64]) {
-    say::answer(form::fit(arg(args, 0), arg(args, 1), layer, keys));
+    say::answer(fit::fit(arg(args, 0), arg(args, 1), layer, keys));
 }
 
 // read c m j ; buffer ; layer ; column
@@ -19,8 +18,8 @@ fn read(args: &[u64], was: &[u64], out: &mut [u64], layer: &[u64], base: &[u64])
     let j = arg(args, 2);
     say::answer(read::read(c, m, layer, base, j, out));
     say::left(was, out);
-    say::part(read::view_part(c, m, layer, base, j, out.len()));
-    say::shown(read::view(c, m, layer, base, j, out));
+    say::part(view::view_part(c, m, layer, base, j, out.len()));
+    say::shown(view::view(c, m, layer, base, j, out));
 }
 
 // place c n m s ; layer
@@ -29,9 +28,9 @@ fn place(args: &[u64], layer: &[u64]) {
     let n = arg(args, 1);
     let m = arg(args, 2);
     let s = arg(args, 3);
-    say::shift(place::shift(c, n, m, layer, s));
-    say::answer(place::row(c, n, m, layer, s));
-    say::back(place::back(c, n, m, layer, s));
+    say::shift(position::shift(c, n, m, layer, s));
+    say::answer(position::row(c, n, m, layer, s));
+    say::back(position::back(c, n, m, layer, s));
 }
 
 // add c m ; layer ; keys ; row

@@ -40,7 +40,7 @@ fn answered(case: &[u8]) {
     io::write_all(1, b"=");
     let mut xs = [0u64; 16384];
     let mut ends = [0u64; 8];
-    crate::numbers::read(case, &mut xs, &mut ends);
+    numbers::read(case, &mut xs, &mut ends);
     crate::call::run(letter(case), &xs, &ends);
     io::write_all(1, b"\n");
 }

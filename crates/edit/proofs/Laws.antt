@@ -34,23 +34,23 @@ use Rattle.model.proofs.Column.{Wide, column-read}
 use Rattle.model.proofs.Edited.{Reads}
 use Rattle.model.proofs.Steps.{empty-good, empty-reads, step-reads}
 use Rattle.form.specs.InForm.{InForm}
-use Rattle.form.proofs.Accepted.{accepts-form, accepts-fit}
+use Rattle.form.proofs.Accepted.{accepts-form}
+use Rattle.fit.proofs.Answers.{ready-fits}
 use Rattle.write.proofs.Laws.{in-room}
 use Rattle.write.proofs.Layers.{flat-length}
-use Rattle.edit.specs.Runs.{stepAnswer, Outcome, stepSlice, Ran, still, first}
+use Rattle.edit.specs.Runs.{stepAnswer, Allows, stepSlice, Ran, still, first}
 use Rattle.edit.proofs.Accepting.{Accepts, accepts}
 
 -- an outcome is an accepted step, or leaves the slice as it was
-pub accepted-outcome : (c m : ℕ) (raw K : List ℕ) (x : Step) (r : Answer) (new : List ℕ) (k : ℕ)
-    → Outcome c m raw K x r new
-    → r ≡ Done k → (stepAnswer c m raw K x ≡ Done k) × (new ≡ stepSlice c m raw K x k)
-accepted-outcome c m raw K x r new k o e =
-    (sym (o .0) ∙ e, o .1 ∙ ap (λ (t : Answer). edited c m t (stepOn K x (layerOf c m raw)) raw) e)
+module _ (c m : ℕ) (raw K : List ℕ) (x : Step) (r : Answer) (new : List ℕ) (o : Allows c m raw K x r new) where
+  with-answer : (a : Answer) → r ≡ a → new ≡ edited c m a (stepOn K x (layerOf c m raw)) raw
+  with-answer a e = o .1 ∙ ap (λ (t : Answer). edited c m t (stepOn K x (layerOf c m raw)) raw) (sym (o .0) ∙ e)
 
-pub refused-outcome : (c m : ℕ) (raw K : List ℕ) (x : Step) (r : Answer) (new : List ℕ) (y : Refusal)
-    → Outcome c m raw K x r new
-    → r ≡ Refused y → new ≡ raw
-refused-outcome c m raw K x r new y o e = o .1 ∙ ap (λ (t : Answer). edited c m t (stepOn K x (layerOf c m raw)) raw) e
+  pub accepted-outcome : (k : ℕ) → r ≡ Done k → (stepAnswer c m raw K x ≡ Done k) × (new ≡ stepSlice c m raw K x k)
+  accepted-outcome k e = (sym (o .0) ∙ e, with-answer (Done k) e)
+
+  pub refused-outcome : (y : Refusal) → r ≡ Refused y → new ≡ raw
+  refused-outcome y e = with-answer (Refused y) e
 
 module _ (c m : ℕ) (raw : List ℕ) (T : Table) (x : Step) (k : ℕ) (h : stepAnswer c m raw (keys T) x ≡ Done k) where
   abbrev K : List ℕ
@@ -59,7 +59,7 @@ module _ (c m : ℕ) (raw : List ℕ) (T : Table) (x : Step) (k : ℕ) (h : step
   abbrev L : Layer
   L = layerOf c m raw
 
-  -- the layer that the paper's definition gives, and the slice after the call
+  -- the layer that the scope's definition gives, and the slice after the call
   abbrev M : Layer
   M = stepOn K x L
 
@@ -125,7 +125,11 @@ module _ (c m : ℕ) (raw : List ℕ) (T : Table) (x : Step) (k : ℕ) (h : step
   edit-next-form = rw edit-layer at next-form
 
   pub edit-next : fitAnswer c k after K ≡ Done 0
-  edit-next = accepts-fit c k after K (rw (keys-length T) next-form) (of-asc key T (A .rising)) edit-fits
+  edit-next = ready-fits (record {
+    form = rw (keys-length T) next-form;
+    keys = of-asc key T (A .rising);
+    fit = edit-fits;
+  })
 
   -- what is read through it is the edited table, and so is every column of it
   pub edit-reads : read T (layerOf c k after) ≡ stepBy x (read T L)

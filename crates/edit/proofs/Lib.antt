@@ -1,14 +1,5 @@
-pub mod Landed
-pub mod Known
-pub mod Entering
-pub mod Struck
-pub mod Changed
-pub mod Cores
-pub mod Answered
-pub mod Rows
-pub mod Showing
-pub mod Added
+pub mod Answers
 pub mod Accepting
 pub mod Laws
+pub mod Splices
 pub mod Unique
-pub mod Ranked

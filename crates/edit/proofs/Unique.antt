@@ -2,7 +2,7 @@
 -- `Post` is the contract as the call is proved to meet it; κs are its lifetimes, a its arguments, s what is lent at its
 -- end.
 -- Assumes nothing.
-use mathlib.Core.Path.{_≡_, sym, ap, _∙_}
+use mathlib.Core.Path.{_≡_, sym, _∙_}
 use mathlib.Core.List.{List}
 use Prim.Native.Nat.{ℕ}
 use contract.Lifetimes.{Lfts}
@@ -11,10 +11,8 @@ use denote.Triple.Clauses.{AtExit}
 use borrow.Fn.Kinds.{Dens, endedOf}
 use Rattle.model.specs.declared.Answer.{Answer}
 use Rattle.model.specs.Cell.{to}
-use Rattle.model.specs.Raw.{layerOf}
-use Rattle.model.specs.Steps.{Step, adding, striking, changing, stepOn}
-use Rattle.model.specs.Calls.{edited}
-use Rattle.edit.specs.Runs.{Outcome}
+use Rattle.model.specs.Steps.{Step, adding, striking, changing}
+use Rattle.edit.specs.Runs.{Allows}
 use Rattle.edit.proofs.add.Kinds as add-kinds
 use Rattle.edit.proofs.add.Reads as add-contract
 use Rattle.edit.proofs.strike.Kinds as strike-kinds
@@ -23,10 +21,8 @@ use Rattle.edit.proofs.change.Kinds as change-kinds
 use Rattle.edit.proofs.change.Reads as change-contract
 
 pub one-outcome : (c m : ℕ) (raw K : List ℕ) (x : Step) (r r′ : Answer) (new new′ : List ℕ)
-    → Outcome c m raw K x r new → Outcome c m raw K x r′ new′ → (r ≡ r′) × (new ≡ new′)
-one-outcome c m raw K x r r′ new new′ p q =
-    let e : r ≡ r′ = p .0 ∙ sym (q .0) in
-    (e, p .1 ∙ (ap (λ (t : Answer). edited c m t (stepOn K x (layerOf c m raw)) raw) e ∙ sym (q .1)))
+    → Allows c m raw K x r new → Allows c m raw K x r′ new′ → (r ≡ r′) × (new ≡ new′)
+one-outcome c m raw K x r r′ new new′ p q = (p .0 ∙ sym (q .0), p .1 ∙ sym (q .1))
 
 module _ (κs : Lfts 3) (a : Dens κs add-kinds.ps) where
   abbrev adds : Step
@@ -34,7 +30,7 @@ module _ (κs : Lfts 3) (a : Dens κs add-kinds.ps) where
 
   module _ (s : AtExit (endedOf 3 add-kinds.ps add-kinds.r) κs) where
     pub add-outcome : (r : Answer) → add-contract.Post κs a r s
-        → Outcome (a .0) (a .1 .0) (now (a .1 .1 .0)) (now (a .1 .1 .1 .0)) adds r (now (s .1 .1 .0))
+        → Allows (a .0) (a .1 .0) (now (a .1 .1 .0)) (now (a .1 .1 .1 .0)) adds r (now (s .1 .1 .0))
     add-outcome r p = p
 
     pub add-unique : (s′ : AtExit (endedOf 3 add-kinds.ps add-kinds.r) κs) (r r′ : Answer) → add-contract.Post κs a r s
@@ -49,7 +45,7 @@ module _ (κs : Lfts 2) (a : Dens κs strike-kinds.ps) where
 
   module _ (s : AtExit (endedOf 2 strike-kinds.ps strike-kinds.r) κs) where
     pub strike-outcome : (r : Answer) → strike-contract.Post κs a r s
-        → Outcome (a .0) (a .1 .0) (now (a .1 .1 .0)) (now (a .1 .1 .1 .0)) strikes r (now (s .1 .1 .0))
+        → Allows (a .0) (a .1 .0) (now (a .1 .1 .0)) (now (a .1 .1 .1 .0)) strikes r (now (s .1 .1 .0))
     strike-outcome r p = p
 
     pub strike-unique : (s′ : AtExit (endedOf 2 strike-kinds.ps strike-kinds.r) κs) (r r′ : Answer)
@@ -65,7 +61,7 @@ module _ (κs : Lfts 2) (a : Dens κs change-kinds.ps) where
 
   module _ (s : AtExit (endedOf 2 change-kinds.ps change-kinds.r) κs) where
     pub change-outcome : (r : Answer) → change-contract.Post κs a r s
-        → Outcome (a .0) (a .1 .0) (now (a .1 .1 .0)) (now (a .1 .1 .1 .0)) changes r (now (s .1 .1 .0))
+        → Allows (a .0) (a .1 .0) (now (a .1 .1 .0)) (now (a .1 .1 .1 .0)) changes r (now (s .1 .1 .0))
     change-outcome r p = p
 
     pub change-unique : (s′ : AtExit (endedOf 2 change-kinds.ps change-kinds.r) κs) (r r′ : Answer)

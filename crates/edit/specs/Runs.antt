@@ -16,8 +16,9 @@ stepAnswer c m raw K (striking r) = strikeAnswer c m raw K r
 stepAnswer c m raw K (changing r j (to v)) = changeAnswer c m raw K r j v
 
 -- what its contract allows: the answer, and what the layer's slice holds afterwards
-abbrev pub Outcome : ℕ → ℕ → List ℕ → List ℕ → Step → Answer → List ℕ → Type 0
-Outcome c m raw K x r new = (r ≡ stepAnswer c m raw K x) × (new ≡ edited c m r (stepOn K x (layerOf c m raw)) raw)
+abbrev pub Allows : ℕ → ℕ → List ℕ → List ℕ → Step → Answer → List ℕ → Type 0
+Allows c m raw K x r new =
+    (r ≡ stepAnswer c m raw K x) × (new ≡ edited c m (stepAnswer c m raw K x) (stepOn K x (layerOf c m raw)) raw)
 
 -- what the slice holds after it was accepted
 abbrev pub stepSlice : ℕ → ℕ → List ℕ → List ℕ → Step → ℕ → List ℕ

@@ -1,120 +1,51 @@
-// The three edits of a layer: add a row, strike a row, change a column of a row.
-mod adding;
-mod base;
-mod landing;
-
+// The three edits of a layer: add a row, strike a row, change a column of a row. Each is planned, then entered.
 use model::Answer;
 use model::Back;
-use model::Refusal;
+use model::MOST_ROWS;
 ghost use mathlib.Core.Path.{_≡_};
-ghost use Prim.Native.Nat.{_+_, _≤_, _<_};
-ghost use lib.ListN.{length};
-ghost use Rattle.model.specs.Cell.{to};
-ghost use Rattle.model.specs.Layer.{rowsAfter};
-ghost use Rattle.model.specs.Raw.{layerOf};
-ghost use Rattle.model.specs.Edits.{strikeRow, changeRowNo};
-ghost use Rattle.model.specs.Calls.{edited, addAnswer, addedLayer, strikeAnswer, struckLayer, changeAnswer, changedLayer};
-ghost use Rattle.edit.specs.Ready.{Ready, readyAnswer};
-ghost use Rattle.edit.specs.Outcome.{Entered};
-
-// The first four refusals of every edit: arguments, form, keys, fit. The result is the number of rows after the layer.
-fn ready(c: usize, m: usize, layer: &[u64], keys: &[u64]) -> Answer
-    ensures { λ r. ⌜ r ≡ readyAnswer c m (now (layer .entry)) (now (keys .entry)) ⌝ }
-{
-    match form::check(c, keys.len(), m, layer) {
-        Answer::Refused(x) => Answer::Refused(x),
-        Answer::Done(rows) => {
-            if !form::keys_ascend(keys) {
-                return Answer::Refused(Refusal {
-                    number: 3,
-                    place: 0,
-                });
-            }
-            let place = form::fit_place(c, m, layer, keys);
-            if place < m {
-                return Answer::Refused(Refusal { number: 4, place });
-            }
-            Answer::Done(rows)
-        }
-    }
-}
+ghost use Rattle.model.specs.Calls.{addAnswer, addSlice, strikeAnswer, strikeSlice, changeAnswer, changeSlice};
 
 // Add a row: an add entry at its position, in key order among the adds there.
 pub fn add(c: usize, m: usize, layer: &mut [u64], keys: &[u64], row: &[u64]) -> Answer
-    ensures { λ x. ⌜ (x ≡ addAnswer c m (now (layer .entry)) (now (keys .entry)) (now (row .entry)))
-        × (now (layer .exit) ≡ edited c m x (addedLayer c m (now (layer .entry)) (now (keys .entry)) (now (row .entry)))
-        (now (layer .entry))) ⌝ }
+    ensures { λ x. ⌜ (let L = now (layer .entry) in let K = now (keys .entry) in let R = now (row .entry) in
+        (x ≡ addAnswer c m L K R) × (now (layer .exit) ≡ addSlice c m L K R)) ⌝ }
 {
     if row.len() != c {
-        return Answer::Refused(Refusal {
-            number: 1,
-            place: 0,
-        });
+        return Answer::refused(1, 0);
     }
-    match ready(c, m, layer, keys) {
+    match fit::ready(c, m, layer, keys) {
         Answer::Refused(x) => Answer::Refused(x),
-        Answer::Done(rows) => adding::add_row(c, m, layer, keys, row, rows),
-    }
-}
-
-// Strikes row number r, which is shown.
-fn strike_row(c: usize, m: usize, layer: &mut [u64], keys: &[u64], r: usize) -> Answer
-    requires { ⌜ Ready c m (now layer) (now keys) × (r < rowsAfter (length (now keys)) (layerOf c m (now layer))) ⌝ }
-    ensures { λ x. ⌜ Entered c m (strikeRow (now (keys .entry)) r (layerOf c m (now (layer .entry))))
-        (now (layer .entry)) x (now (layer .exit)) ⌝ }
-{
-    match place::origin_of(c, keys.len(), m, layer, r) {
-        Back::Base(s) => base::strike_base(c, m, layer, keys, s),
-        Back::Added(i) => {
-            write::remove(c, m, i, 1, layer);
-            Answer::Done(m - 1)
+        Answer::Done(rows) => {
+            let p = plan::add(c, m, layer, keys, row);
+            if p.shown {
+                return Answer::refused(7, 0);
+            }
+            if MOST_ROWS <= rows {
+                if write::room_of(c, layer.len()) < m + 1 {
+                    return Answer::refused(9, 0);
+                }
+                return Answer::refused(10, 0);
+            }
+            let splice = p.splice;
+            write::enter(c, m, splice, layer)
         }
-        Back::Refused(x) => Answer::Refused(x),
     }
 }
 
 // Strike row number r: an added row's entry disappears; a base row loses its changes and gains a strike.
 pub fn strike(c: usize, m: usize, layer: &mut [u64], keys: &[u64], r: usize) -> Answer
-    ensures { λ x. ⌜ (x ≡ strikeAnswer c m (now (layer .entry)) (now (keys .entry)) r)
-        × (now (layer .exit) ≡ edited c m x (struckLayer c m (now (layer .entry)) (now (keys .entry)) r)
-        (now (layer .entry))) ⌝ }
+    ensures { λ x. ⌜ (let L = now (layer .entry) in let K = now (keys .entry) in
+        (x ≡ strikeAnswer c m L K r) × (now (layer .exit) ≡ strikeSlice c m L K r)) ⌝ }
 {
-    match ready(c, m, layer, keys) {
+    match fit::ready(c, m, layer, keys) {
         Answer::Refused(x) => Answer::Refused(x),
         Answer::Done(rows) => {
             if rows <= r {
-                return Answer::Refused(Refusal {
-                    number: 5,
-                    place: 0,
-                });
+                return Answer::refused(5, 0);
             }
-            strike_row(c, m, layer, keys, r)
+            let p = plan::strike(c, m, layer, keys, r);
+            write::enter(c, m, p, layer)
         }
-    }
-}
-
-// Changes column j, which is not the key, of row number r, which is shown, to v.
-fn change_row(
-    c: usize,
-    m: usize,
-    layer: &mut [u64],
-    keys: &[u64],
-    r: usize,
-    j: usize,
-    v: u64,
-) -> Answer
-    requires { ⌜ Ready c m (now layer) (now keys) × (r < rowsAfter (length (now keys)) (layerOf c m (now layer)))
-        × (1 ≤ j) × (j < c) ⌝ }
-    ensures { λ x. ⌜ Entered c m (changeRowNo (now (keys .entry)) r j (to v) (layerOf c m (now (layer .entry))))
-        (now (layer .entry)) x (now (layer .exit)) ⌝ }
-{
-    match place::origin_of(c, keys.len(), m, layer, r) {
-        Back::Base(s) => base::change_base(c, m, layer, keys, s, j, v),
-        Back::Added(i) => {
-            write::set_value(c, m, i, j, v, layer);
-            Answer::Done(m)
-        }
-        Back::Refused(x) => Answer::Refused(x),
     }
 }
 
@@ -129,32 +60,32 @@ pub fn change(
     j: usize,
     v: u64,
 ) -> Answer
-    ensures { λ x. ⌜ (x ≡ changeAnswer c m (now (layer .entry)) (now (keys .entry)) r j v)
-        × (now (layer .exit) ≡ edited c m x (changedLayer c m (now (layer .entry)) (now (keys .entry)) r j v)
-        (now (layer .entry))) ⌝ }
+    ensures { λ x. ⌜ (let L = now (layer .entry) in let K = now (keys .entry) in
+        (x ≡ changeAnswer c m L K r j v) × (now (layer .exit) ≡ changeSlice c m L K r j v)) ⌝ }
 {
     if c <= j {
-        return Answer::Refused(Refusal {
-            number: 1,
-            place: 0,
-        });
+        return Answer::refused(1, 0);
     }
-    match ready(c, m, layer, keys) {
+    match fit::ready(c, m, layer, keys) {
         Answer::Refused(x) => Answer::Refused(x),
         Answer::Done(rows) => {
             if rows <= r {
-                return Answer::Refused(Refusal {
-                    number: 5,
-                    place: 0,
-                });
+                return Answer::refused(5, 0);
             }
             if j == 0 {
-                return Answer::Refused(Refusal {
-                    number: 6,
-                    place: 0,
-                });
+                return Answer::refused(6, 0);
             }
-            change_row(c, m, layer, keys, r, j, v)
+            match mark::origin_of(c, keys.len(), m, layer, r) {
+                Back::Base(s) => {
+                    let p = plan::change_base(c, m, layer, keys, s, j, v);
+                    write::enter(c, m, p, layer)
+                }
+                Back::Added(i) => {
+                    write::set_value(c, m, i, j, v, layer);
+                    Answer::Done(m)
+                }
+                Back::Refused(x) => Answer::Refused(x),
+            }
         }
     }
 }

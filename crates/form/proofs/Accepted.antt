@@ -7,9 +7,9 @@ use mathlib.Core.Bool.{Bool, true, false, not, cond, _&&_}
 use mathlib.Core.List.{List, [], _∷_, List·Memᴰ as Mem}
 use lib.ListN.{length, take}
 use lib.Dec.{ltb, leb}
-use borrow.Author.Tests.{ltb-false, le-ltb, le-leb, eqb-true}
-use Rattle.order.specs.Lists.{count, ascending}
-use Rattle.order.proofs.Tests.{and-of, or-false}
+use borrow.Author.Tests.{ltb-false, le-ltb, le-leb}
+use Rattle.order.specs.Lists.{count}
+use Rattle.order.proofs.Tests.{impossible, and-of, or-false}
 use Rattle.order.proofs.Members.{mem-map}
 use Rattle.order.proofs.Pairs.{AllPairs, pairs-unmap, none-broken}
 use Rattle.model.specs.declared.Entry.{Entry}
@@ -18,14 +18,12 @@ use Rattle.model.specs.declared.Answer.the-variants.{Done, Refused}
 use Rattle.model.specs.Layer.{Edit, isStrike, rowsAfter}
 use Rattle.model.specs.Raw.{Held, entriesOf, editOf, layerOf, flat}
 use Rattle.model.specs.Form.{zeros, sound, follows, formPlace, inOrder, keepsForm, argsOk}
-use Rattle.model.specs.Fit.{fitPlace, fits}
-use Rattle.model.specs.Refusals.{refusal, firstMet, badKeys, badFit, breaksForm}
-use Rattle.model.specs.Calls.{formAnswer, fitAnswer}
+use Rattle.model.specs.Refusals.{refusal, breaksForm}
+use Rattle.model.specs.Calls.{formAnswer}
 use Rattle.model.proofs.Raw.{entries-length, layer-length, form-place, args-held}
-use Rattle.model.proofs.Fit.{in-order, fits-all}
+use Rattle.model.proofs.Fit.{in-order}
 use Rattle.form.specs.InForm.{InForm}
 use Rattle.form.proofs.Formed.{Formed, Whole, whole, strikes-few}
-use Rattle.form.proofs.Answers.{after-form, reached, fit-accepted}
 use Rattle.form.proofs.Flat.{flat-entries}
 
 pub record Accepted (c n m : ℕ) (xs : List ℕ) (rows : ℕ) : Type 0 where
@@ -49,9 +47,9 @@ pub record Accepted (c n m : ℕ) (xs : List ℕ) (rows : ℕ) : Type 0 where
 -- neither refusal is met
 passed : (a b : Bool) (x y : Refusal) {r k : ℕ} → cond (not a) (Refused x) (cond b (Refused y) (Done r)) ≡ Done k
     → (a ≡ true) × (b ≡ false) × (r ≡ k)
-passed true true x y e = absurd (let z : _≡_ {A = ℕ} 0 1 = cc in omega arith)
+passed true true x y e = impossible (cc)
 passed true false x y e = (refl, refl, cc)
-passed false b x y e = absurd (let z : _≡_ {A = ℕ} 0 1 = cc in omega arith)
+passed false b x y e = impossible (cc)
 
 module _ (c n m : ℕ) (xs : List ℕ) (rows : ℕ) (h : formAnswer c n m xs ≡ Done rows) where
   done : (argsOk c n m (length xs) ≡ true) × (breaksForm c n m xs ≡ false) × (rowsAfter n (layerOf c m xs) ≡ rows)
@@ -144,41 +142,3 @@ module _ (c n m : ℕ) (xs : List ℕ) (held : Held c m xs) (base : n ≤ 4096)
   accepts-form =
       in-form-by c n m xs args-pass
       (rw (none-at-fault, le-ltb m m (omega arith), le-ltb 4096 (rowsAfter n (layerOf c m xs)) few))
-
--- what callers know of a layer that the fit check accepts
-pub record Fitted (c m : ℕ) (xs K : List ℕ) : Type 0 where
-  pub form : Accepted c (length K) m xs (rowsAfter (length K) (layerOf c m xs))
-  pub rising : ascending K ≡ true
-  pub fit : fits K (layerOf c m xs) ≡ true
-
-module _ (c m : ℕ) (xs K : List ℕ) {k : ℕ} (h : fitAnswer c m xs K ≡ Done k) where
-  -- the form is accepted, and then neither refusal is met
-  fit-done : (rows : ℕ) × (formAnswer c (length K) m xs ≡ Done rows)
-      × (firstMet Refused (badKeys K ∷ badFit 0 K (layerOf c m xs) ∷ []) (Done 0) ≡ Done k)
-  unfolding fitAnswer
-  fit-done = reached (formAnswer c (length K) m xs)
-      (sym (after-form Refused c (length K) m xs (badKeys K ∷ badFit 0 K (layerOf c m xs) ∷ []) (Done 0)) ∙ h)
-
-  neither : (ascending K ≡ true) × (ltb (fitPlace K (layerOf c m xs)) (length (layerOf c m xs)) ≡ false)
-      × (0 ≡ k)
-  neither =
-      passed (ascending K) (ltb (fitPlace K (layerOf c m xs)) (length (layerOf c m xs))) (refusal 3 0)
-      (refusal 4 (0 + fitPlace K (layerOf c m xs))) (fit-done .2)
-
-  pub fit-in-form : InForm c (length K) m xs
-  fit-in-form = in-form c (length K) m xs (fit-done .0) (fit-done .1)
-
-  pub fitted : Fitted c m xs K
-  fitted = record {
-    form = accepted c (length K) m xs (rowsAfter (length K) (layerOf c m xs)) fit-in-form;
-    rising = neither .0;
-    fit = fits-all K (layerOf c m xs) (neither .1);
-  }
-
--- and back: a layer in form that fits ascending keys is accepted
-pub accepts-fit : (c m : ℕ) (xs K : List ℕ) → InForm c (length K) m xs → ascending K ≡ true → fits K (layerOf c m xs) ≡ true
-    → fitAnswer c m xs K ≡ Done 0
-unfolding fits
-accepts-fit c m xs K f a h =
-    sym (fit-accepted c m xs K (rowsAfter (length K) (layerOf c m xs)) f a
-    (omega (arith, eqb-true (fitPlace K (layerOf c m xs)) (length (layerOf c m xs)) h, layer-length c m xs)))

@@ -6,8 +6,4 @@ pub mod Formed
 pub mod Flat
 pub mod Answers
 pub mod Accepted
-pub mod Looks
-pub mod Ahead
-pub mod Fitting
 pub mod Unique
-pub mod Rising

@@ -1,4 +1,4 @@
--- The pass that looks at the one entry before finds the place of the document, which looks at all the earlier entries.
+-- The pass that looks at the one entry before finds the place of the scope, which looks at all the earlier entries.
 -- Assumes nothing.
 use Prim.Native.Nat.{ℕ, zero, suc, _≤_}
 use native.Mathlib.Omega.{arith}

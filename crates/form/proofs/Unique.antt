@@ -1,13 +1,9 @@
--- Any two outcomes that a contract allows are equal.
+-- Any two outcomes that the form check's contract allows are equal: the contract is the one that it is proved to meet.
 -- Assumes nothing.
-use Prim.Native.Nat.{ℕ}
-use mathlib.Core.Path.{_≡_, sym, _∙_}
-use mathlib.Core.List.{List}
-use Rattle.model.specs.declared.Answer.{Answer}
-use Rattle.model.specs.Calls.{formAnswer, fitAnswer}
+use mathlib.Core.Path.{sym, _∙_}
+use Rattle.order.proofs.Unique.{Unique}
+use Rattle.form.proofs.check.Kinds as check-call
+use Rattle.form.proofs.check.Reads as check-promise
 
-pub check-unique : (c n m : ℕ) (raw : List ℕ) (r s : Answer) → r ≡ formAnswer c n m raw → s ≡ formAnswer c n m raw → r ≡ s
-check-unique c n m raw r s p q = p ∙ sym q
-
-pub fit-unique : (c m : ℕ) (raw K : List ℕ) (r s : Answer) → r ≡ fitAnswer c m raw K → s ≡ fitAnswer c m raw K → r ≡ s
-fit-unique c m raw K r s p q = p ∙ sym q
+pub check-unique : Unique 1 check-call.ps check-call.r check-promise.Post
+check-unique κs lent x y s t p q = p ∙ sym q

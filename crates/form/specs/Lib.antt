@@ -1,4 +1,2 @@
 pub mod InForm
 pub mod Scan
-pub mod Suit
-pub mod Rising

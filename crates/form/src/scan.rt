@@ -4,7 +4,7 @@ ghost use mathlib.Core.Path.{_≡_};
 ghost use Prim.Native.Nat.{_+_, _≤_};
 ghost use lib.ListN.{length, drop};
 ghost use lib.Dec.{eqb};
-ghost use Rattle.order.specs.Lists.{one, all, count};
+ghost use Rattle.order.specs.Lists.{all, count};
 ghost use Rattle.model.specs.Raw.{ADD, STRIKE, entryAt, entriesOf, Held};
 ghost use Rattle.form.specs.Scan.{followsKind, aloneGood, good, ofKind};
 
@@ -13,13 +13,6 @@ pub struct Scan {
     pub place: usize,
     pub adds: usize,
     pub strikes: usize,
-}
-
-// A test as a number.
-fn one_if(b: bool) -> usize
-    ensures { λ r. ⌜ (r ≡ one b) × (r ≤ 1) ⌝ }
-{
-    if b { 1 } else { 0 }
 }
 
 // An entry at s of kind k may stand after one at p of kind q.
@@ -37,14 +30,11 @@ fn follows(p: u64, q: u64, s: u64, k: u64) -> bool
 fn tail_zero(vals: &[u64]) -> bool
     ensures { λ r. ⌜ r ≡ all (λ v. eqb v 0) (drop 1 (now (vals .entry))) ⌝ }
 {
-    let mut j: usize = 1;
-    while j < vals.len() {
-        if vals[j] != 0 {
-            return false;
-        }
-        j += 1;
+    let mut zero = true;
+    for j in 1..vals.len() {
+        zero = zero & (vals[j] == 0);
     }
-    true
+    zero
 }
 
 // The entry from `at` breaks no rule alone.
@@ -87,8 +77,8 @@ pub fn scan_layer(c: usize, n: usize, m: usize, layer: &[u64]) -> Scan
                 strikes,
             };
         }
-        adds += one_if(k == Entry::ADD);
-        strikes += one_if(k == Entry::STRIKE);
+        adds += entry::one_if(k == Entry::ADD);
+        strikes += entry::one_if(k == Entry::STRIKE);
         p = s;
         q = k;
         at += c + 2;

@@ -1,13 +1,12 @@
--- Lines that 01 names, and what each says: readable ones, the largest number, leading zeros, and each way to be unreadable.
+-- Lines that the scope names, and what each says: readable ones, the largest number, leading zeros, and each way to be unreadable.
 -- Assumes nothing.
 use mathlib.Core.Path.{_≡_, refl}
 use mathlib.Core.List.{List, [], _∷_, map}
 use Prim.Native.Nat.{ℕ}
 use Rattle.line.specs.declared.Line.{Line}
 use Rattle.line.specs.declared.Line.the-variants.{Base, Add, Strike, Change, Unreadable}
-use Rattle.line.specs.Number.{isNumber}
+use Rattle.decimal.specs.Number.{isNumber}
 use Rattle.line.specs.Line.{fields, lineOf}
-use Rattle.line.specs.Decimal.{digitsWithin, digits, decimal}
 
 pub lines : List (List ℕ)
 lines =
@@ -84,9 +83,3 @@ meanings =
 pub each-line : map lineOf lines ≡ meanings
 unfolding lineOf fields isNumber lines meanings
 each-line = refl
-
--- numbers and their digits
-pub each-number : map decimal (0 ∷ 7 ∷ 10 ∷ 405 ∷ []) ≡
-    (48 ∷ []) ∷ (55 ∷ []) ∷ (49 ∷ 48 ∷ []) ∷ (52 ∷ 48 ∷ 53 ∷ []) ∷ []
-unfolding decimal digits digitsWithin
-each-number = refl

@@ -1,22 +1,22 @@
 -- A readable line has at most 64 bytes, so that 65 bytes of a line say what the whole line says.
 -- Assumes nothing.
 use mathlib.Core.Path.{_≡_, refl, sym, ap, _∙_}
-use mathlib.Core.Bool.{Bool, true, false, cond, _&&_}
+use mathlib.Core.Bool.{Bool, true, false, cond}
 use mathlib.Core.List.{List, [], _∷_, map}
 use Prim.Native.Nat.{ℕ, suc, _+_, _*_, _≤_, _<_}
 use native.Mathlib.Omega.{arith}
-use lib.ListN.{length, take, length-take}
+use lib.ListN.{length, take}
 use lib.Seq.{take-all, length-take-le}
-use lib.Dec.{eqb, ltb, leb}
+use lib.Dec.{eqb, ltb}
 use borrow.Author.Tests.{ltb-true, ltb-false}
 use Rattle.order.specs.Lists.{all}
 use Rattle.order.proofs.Tests.{and-l, and-r}
-use Rattle.line.specs.declared.Line.{Line}
 use Rattle.line.specs.declared.Line.the-variants.{Unreadable}
-use Rattle.line.specs.Number.{digit, value, isNumber, tooLarge}
+use Rattle.decimal.specs.Number.{digit, value, isNumber, tooLarge}
 use Rattle.line.specs.Line.{onto, fields, said, lineOfFields, lineOf}
-use Rattle.line.proofs.Reading.{passed, fields-some}
-use Rattle.line.proofs.Sign.{said-long, same-both}
+use Rattle.decimal.proofs.Four.{passed}
+use Rattle.line.proofs.Reading.{fields-some}
+use Rattle.line.proofs.Sign.{said-long}
 
 -- the bytes of fields, each with one byte behind it
 size : List (List ℕ) → ℕ

@@ -3,23 +3,26 @@
 use mathlib.Core.Path.{_≡_, refl, sym, ap, _∙_}
 use mathlib.Core.Bool.{Bool, true, false, cond, _&&_}
 use mathlib.Core.List.{List, [], _∷_, _++_, map, append-assoc, append-nil}
-use Prim.Native.Nat.{ℕ, suc, _+_, _-_, _*_, _≤_, _<_}
+use Prim.Native.Nat.{ℕ, suc, _+_, _-_, _≤_, _<_}
 use native.Mathlib.Omega.{arith}
 use native.Mathlib.Nat.{zero-add, add-zero}
 use native.Mathlib.Numerals.{add-one}
-use lib.ListN.{length, drop, length-drop}
-use lib.Seq.{drop-drop, append-snoc}
+use lib.ListN.{length, drop}
+use lib.Seq.{drop-drop}
 use lib.Dec.{leb, ltb, eqb}
-use borrow.Author.Tests.{ltb-true, leb-true, lt-ltb, le-leb, lt-leb, ltb-false, le-ltb}
+use borrow.Author.Tests.{ltb-true, lt-ltb, le-leb}
 use Rattle.order.specs.Lists.{all}
-use Rattle.order.proofs.Tests.{tests, and-l, and-r, and-of, same-test}
+use Rattle.order.proofs.Tests.{and-l, and-r, and-of, same-test}
 use Rattle.line.specs.declared.Line.{Line}
 use Rattle.line.specs.declared.Line.the-variants.{Unreadable}
-use Rattle.line.specs.declared.field.Field.{Field}
-use Rattle.line.specs.declared.field.Field.the-variants.{Last, More, Bad}
-use Rattle.line.specs.Number.{digit, valueFrom, value, isNumber, tooLarge}
-use Rattle.line.specs.Line.{onto, fields, said, lineOf}
-use Rattle.line.specs.Fields.{more, grows, scanned, withFields}
+use Rattle.field.specs.declared.Field.{Field}
+use Rattle.field.specs.declared.Field.the-variants.{Last, More, Bad}
+use Rattle.field.specs.Scan.{more, grows, scanned}
+use Rattle.field.proofs.Pass.{unlike}
+use Rattle.decimal.proofs.Four.{passed, pass}
+use Rattle.decimal.specs.Number.{digit, valueFrom, value, isNumber, tooLarge}
+use Rattle.line.specs.Line.{onto, fields, said}
+use Rattle.line.specs.Fields.{withFields}
 
 -- digits behind a number only make it larger
 pub value-grows : (v : ℕ) (g : List ℕ) → v ≤ valueFrom v g
@@ -29,22 +32,6 @@ value-grows v (b ∷ g) = omega (arith, value-grows (more v b) g)
 -- the field g behind k digits worth v makes a number
 abbrev pub numberFrom : ℕ → ℕ → List ℕ → Bool
 numberFrom k v g = (leb 1 (k + length g) && leb (k + length g) 20) && (all digit g && ltb (valueFrom v g) tooLarge)
-
--- four tests passed together, and taken apart
-pub passed : (a b c d : ℕ) (p : Bool) (v w : ℕ) → (leb a b && leb c d) && (p && ltb v w) ≡ true
-    → (a ≤ b) × (c ≤ d) × (p ≡ true) × (v < w)
-passed a b c d p v w e =
-    let sizes = and-l (leb a b && leb c d) (p && ltb v w) e in
-    let rest = and-r (leb a b && leb c d) (p && ltb v w) e in (
-      leb-true a b (and-l (leb a b) (leb c d) sizes),
-      leb-true c d (and-r (leb a b) (leb c d) sizes),
-      and-l p (ltb v w) rest,
-      ltb-true v w (and-r p (ltb v w) rest),
-    )
-
-pub pass : (a b c d : ℕ) (p : Bool) (v w : ℕ) → a ≤ b → c ≤ d → p ≡ true → v < w
-    → (leb a b && leb c d) && (p && ltb v w) ≡ true
-pass a b c d p v w h i e j = rw (le-leb a b h, le-leb c d i, e, lt-ltb v w j)
 
 -- one byte of it: a digit with room for it, and the rest
 number-step : (k v b : ℕ) (g : List ℕ) →
@@ -85,13 +72,13 @@ goOn f vs xs Bad = Unreadable
 -- there is always a first field
 pub fields-some : (bs : List ℕ) → fields bs ≡ [] → ⊥
 unfolding fields
-fields-some [] e = let z : _≡_ {A = ℕ} 0 1 = cc in omega arith
+fields-some [] e = unlike (cc)
 fields-some (b ∷ bs) e = go (eqb b 32) (fields bs) e
   where
     go : (t : Bool) (fs : List (List ℕ)) → cond t ([] ∷ fs) (onto b fs) ≡ [] → ⊥
-    go true fs e = let z : _≡_ {A = ℕ} 0 1 = cc in omega arith
-    go false [] e = let z : _≡_ {A = ℕ} 0 1 = cc in omega arith
-    go false (f ∷ fs) e = let z : _≡_ {A = ℕ} 0 1 = cc in omega arith
+    go true fs e = unlike (cc)
+    go false [] e = unlike (cc)
+    go false (f ∷ fs) e = unlike (cc)
 
 -- a byte in front of the next field
 onto-step : (f vs : List ℕ) (k v b : ℕ) (fs : List (List ℕ)) → (fs ≡ [] → ⊥) →
@@ -190,27 +177,3 @@ module _ (f vs xs : List ℕ) (i : ℕ) where
   pub no-number : (r : Field) → r ≡ scanned 0 0 i (drop i xs) → r ≡ Bad →
       withFields f vs (fields (drop i xs)) ≡ Unreadable
   no-number r e t = read-on f vs xs i ∙ ap (goOn f vs xs) (sym e ∙ t)
-
--- the next field starts within the line
-field-within : (bs : List ℕ) (k v i w next : ℕ) → scanned k v i bs ≡ More w next → next ≤ i + length bs
-unfolding scanned
-field-within [] k v i w next e = go (leb 1 k) e
-  where
-    go : (t : Bool) → cond t (Last v) Bad ≡ More w next → next ≤ i + 0
-    go true e = absurd (let z : _≡_ {A = ℕ} 0 1 = cc in omega arith)
-    go false e = absurd (let z : _≡_ {A = ℕ} 0 1 = cc in omega arith)
-field-within (b ∷ bs) k v i w next e =
-    go (eqb b 32) (leb 1 k) (ltb k 20 && grows v b) (field-within bs (suc k) (more v b) (suc i) w next) e
-  where
-    go : (t u s : Bool) → (scanned (suc k) (more v b) (suc i) bs ≡ More w next → next ≤ suc i + length bs) →
-        cond t (cond u (More v (suc i)) Bad) (cond s (scanned (suc k) (more v b) (suc i) bs) Bad) ≡ More w next
-        → next ≤ i + suc (length bs)
-    go true true s ih e = let z : suc i ≡ next = cc in omega arith
-    go true false s ih e = absurd (let z : _≡_ {A = ℕ} 0 1 = cc in omega arith)
-    go false u true ih e = omega (arith, ih e)
-    go false u false ih e = absurd (let z : _≡_ {A = ℕ} 0 1 = cc in omega arith)
-
-pub next-within : (xs : List ℕ) (i : ℕ) (r : Field) (v next : ℕ) → i ≤ length xs → r ≡ scanned 0 0 i (drop i xs) →
-    r ≡ More v next → next ≤ length xs
-next-within xs i r v next h e t =
-    omega (arith, field-within (drop i xs) 0 0 i v next (sym e ∙ t), length-drop i xs)

@@ -1,8 +1,8 @@
 -- The first field of a line: one byte and a space, or the line is unreadable; and a line has one meaning.
 -- Assumes nothing.
-use mathlib.Core.Path.{_≡_, refl, sym, ap, _∙_}
+use mathlib.Core.Path.{_≡_, refl}
 use mathlib.Core.Bool.{Bool, true, false, cond}
-use mathlib.Core.List.{List, [], _∷_, _++_, map}
+use mathlib.Core.List.{List, [], _∷_, map}
 use Prim.Native.Nat.{ℕ, _≤_, _<_}
 use native.Mathlib.Omega.{arith}
 use lib.ListN.{length, drop, getD}
@@ -11,7 +11,7 @@ use borrow.Author.Tests.{eq-eqb, ne-eqb}
 use Rattle.order.specs.Lists.{all}
 use Rattle.line.specs.declared.Line.{Line}
 use Rattle.line.specs.declared.Line.the-variants.{Unreadable}
-use Rattle.line.specs.Number.{value, isNumber}
+use Rattle.decimal.specs.Number.{value, isNumber}
 use Rattle.line.specs.Line.{onto, fields, said, lineOfFields, lineOf}
 use Rattle.line.specs.Fields.{withFields}
 use Rattle.line.proofs.Reading.{fields-some}

@@ -1,4 +1,2 @@
-pub mod Number
 pub mod Line
 pub mod Fields
-pub mod Decimal

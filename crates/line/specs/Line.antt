@@ -1,12 +1,12 @@
 -- What a line says: `B g s m` a base row, `+ g s m` adds, `- r` strikes, `= r j v` changes; any other line is unreadable.
-use mathlib.Core.Bool.{Bool, true, false, cond}
+use mathlib.Core.Bool.{Bool, false, cond}
 use mathlib.Core.List.{List, [], _∷_, map}
 use Prim.Native.Nat.{ℕ}
 use lib.Dec.{eqb}
 use Rattle.order.specs.Lists.{all}
 use Rattle.line.specs.declared.Line.{Line}
 use Rattle.line.specs.declared.Line.the-variants.{Base, Add, Strike, Change, Unreadable}
-use Rattle.line.specs.Number.{value, isNumber}
+use Rattle.decimal.specs.Number.{value, isNumber}
 
 -- a byte in front of the first field
 abbrev pub onto : ℕ → List (List ℕ) → List (List ℕ)

@@ -1,9 +1,5 @@
-// What a line of the printing program says, and numbers written in decimal.
-mod field;
-mod number;
-
+// What a line of the printing program says.
 use field::Field;
-pub use number::write_number;
 ghost use mathlib.Core.Path.{_≡_};
 ghost use mathlib.Core.List.{[], _∷_};
 ghost use Prim.Native.Nat.{_≤_};

@@ -27,14 +27,16 @@ edit-of T L M a F G same (at s d) m =
     let k = keyOf (keys T) (at s d) in
     let w = meaning-mem (keys T) M k d (rw (sym (same k)) (mem-meaning (keys T) L k s d m refl)) in
     let sp : s ≡ w .0 =
-    sym (position-of T L a F s d m) ∙ (ap (λ (l : ℕ). count (below key l) T) (sym (w .2)) ∙ position-of T M a G (w .0) d (w .1)) in
+    sym (position-of T L a F s d m)
+    ∙ (ap (λ (l : ℕ). count (below key l) T) (sym (w .2)) ∙ position-of T M a G (w .0) d (w .1)) in
     mem-cast {b = at (w .0) d} (ap (λ (p : ℕ). at p d) sp) (w .1)
 
 pub canonical : (T : Table) (L M : Layer) → AscFrom key 0 T → Fit T L → Fit T M → MeanAlike T L M → L ≡ M
 canonical T L M a F G same =
-    pairs-ext before before-asym L M (F .sorted) (G .sorted) (edit-of T L M a F G same) (edit-of T M L a G F (λ k. sym (same k)))
+    pairs-ext before before-asym L M (F .sorted) (G .sorted) (edit-of T L M a F G same)
+    (edit-of T M L a G F (λ k. sym (same k)))
 
--- the same over the paper's tests
+-- the same over the scope's tests
 pub canonical-tests : (c : ℕ) (T : Table) (L M : Layer) → ascending (keys T) ≡ true → Tested c T L → Tested c T M
     → MeanAlike T L M → L ≡ M
 canonical-tests c T L M t GL GM same =

@@ -3,96 +3,55 @@
 use mathlib.Core.Path.{_≡_, refl, sym, ap, _∙_}
 use mathlib.Core.Logic.{inl, inr}
 use mathlib.Core.Bool.{Bool, true, false, cond, _&&_}
-use mathlib.Core.List.{
-  List,
-  [],
-  _∷_,
-  _++_,
-  map,
-  map-append,
-  List·Memᴰ as Mem,
-  List·Memᴰ·head as here,
-  List·Memᴰ·tail as next,
-}
-use Prim.Native.Nat.{ℕ, suc, _<_}
+use mathlib.Core.List.{List, [], _∷_, map, List·Memᴰ as Mem, List·Memᴰ·head as here, List·Memᴰ·tail as next}
+use Prim.Native.Nat.{ℕ, _<_}
 use native.Mathlib.Omega.{arith}
 use lib.ListN.{length, length-map}
 use lib.Dec.{leb, eqb}
 use borrow.Author.Tests.{eqb-true, eqb-false, ne-eqb}
 use Rattle.order.proofs.Tests.{and-r}
-use Rattle.order.proofs.Ascending.{At, top, deep, at-mem}
+use Rattle.order.proofs.Ascending.{At, at-mem}
 use Rattle.model.specs.Row.{Row, Table, cell, key, column, keys}
 use Rattle.model.specs.Cell.{CellEdit, done, put}
 use Rattle.model.specs.Layer.{add, strike, change, at, Layer, addsAt, struck, changed, changedCell}
-use Rattle.model.specs.Read.{unless, through, read, readColumn, keysAfter}
+use Rattle.model.specs.Read.{unless, read, readColumn, keysAfter}
 use Rattle.model.proofs.Cell.{put-here, put-elsewhere, put-length}
 use Rattle.model.proofs.Layer.{KeyKept, changed-length}
+use Rattle.model.proofs.Through.{map-unless, through-same, through-map, through-over}
 use Rattle.model.proofs.Read.{Shown, shown}
 use Rattle.model.proofs.Fit.{Good}
 
-module _ {A B : Type 0} where
-  pub map-unless : (f : A → B) (t : Bool) (x : A) → map f (unless t x) ≡ unless t (f x)
-  map-unless f true x = refl
-  map-unless f false x = refl
-
-  -- a pass gives what its two functions give: what is added at each position, and what each row shows at its own
-  pub through-same : (a b : ℕ → List B) (k l : ℕ → A → List B) (s : ℕ) (xs : List A)
-      → ((p : ℕ) → a p ≡ b p) → ((p : ℕ) (x : A) → At x p s xs → k p x ≡ l p x) → through a k s xs ≡ through b l s xs
-  through-same a b k l s [] f g = f s
-  through-same a b k l s (x ∷ xs) f g =
-      let rest = through-same a b k l (suc s) xs f (λ p y n. g p y (deep n)) in
-      rw (f s, g s x (top refl refl)) (ap (λ (t : List B). b s ++ (l s x ++ t)) rest)
-
-module _ {A B C : Type 0} where
-  -- what is made of the result of a pass is made on the way
-  pub through-map : (f : B → C) (a : ℕ → List B) (k : ℕ → A → List B) (s : ℕ) (xs : List A)
-      → map f (through a k s xs) ≡ through (λ p. map f (a p)) (λ p x. map f (k p x)) s xs
-  through-map f a k s [] = refl
-  through-map f a k s (x ∷ xs) =
-      map-append f (a s) (k s x ++ through a k (suc s) xs)
-      ∙ ap (λ (t : List C). map f (a s) ++ t)
-      (map-append f (k s x) (through a k (suc s) xs)
-      ∙ ap (λ (t : List C). map f (k s x) ++ t) (through-map f a k (suc s) xs))
-
-  -- and so is what is made of its rows before
-  pub through-over : (g : A → B) (a : ℕ → List C) (k : ℕ → B → List C) (s : ℕ) (xs : List A)
-      → through a k s (map g xs) ≡ through a (λ p x. k p (g x)) s xs
-  through-over g a k s [] = refl
-  through-over g a k s (x ∷ xs) = ap (λ (t : List C). a s ++ (k s (g x) ++ t)) (through-over g a k (suc s) xs)
-
 -- the cell of a changed row is the changed cell
-put-cell : (j i : ℕ) (e : CellEdit) (r : Row) → j < length r → cell j (put r i e) ≡ cond (eqb j i) (done e (cell j r)) (cell j r)
+put-cell : (j i : ℕ) (e : CellEdit) (r : Row) → j < length r
+    → cell j (put r i e) ≡ cond (eqb j i) (done e (cell j r)) (cell j r)
 put-cell j i e r h = go (eqb j i) refl
   where
     go : (t : Bool) → eqb j i ≡ t → cell j (put r i e) ≡ cond t (done e (cell j r)) (cell j r)
     go true f = rw (← eqb-true j i f) (put-here r j e h)
     go false f = put-elsewhere r i j e (eqb-false j i f)
 
-changed-cell : (s j : ℕ) (L : Layer) (r : Row) → j < length r → cell j (changed s L r) ≡ changedCell s j L (cell j r)
-changed-cell s j [] r h = refl
-changed-cell s j (at p (add q) ∷ L) r h = changed-cell s j L r h
-changed-cell s j (at p (strike k) ∷ L) r h = changed-cell s j L r h
-changed-cell s j (at p (change i e) ∷ L) r h = go (λ q. changed-cell s j L q) (eqb s p)
+changed-by : (s j : ℕ) (L : Layer) (r : Row)
+    → ((p i : ℕ) (e : CellEdit) → Mem (at p (change i e)) L → (x : Row) → length x ≡ length r
+    → cell j (put x i e) ≡ cond (eqb j i) (done e (cell j x)) (cell j x))
+    → cell j (changed s L r) ≡ changedCell s j L (cell j r)
+changed-by s j [] r h = refl
+changed-by s j (at p (add q) ∷ L) r h = changed-by s j L r (λ p′ i e m. h p′ i e (next m))
+changed-by s j (at p (strike k) ∷ L) r h = changed-by s j L r (λ p′ i e m. h p′ i e (next m))
+changed-by s j (at p (change i e) ∷ L) r h =
+    go (λ q g. changed-by s j L q (λ p′ i′ f m x k. h p′ i′ f (next m) x (k ∙ g))) (eqb s p)
   where
-    go : ((q : Row) → j < length q → cell j (changed s L q) ≡ changedCell s j L (cell j q)) → (t : Bool)
+    go : ((q : Row) → length q ≡ length r → cell j (changed s L q) ≡ changedCell s j L (cell j q)) → (t : Bool)
         → cell j (changed s L (cond t (put r i e) r)) ≡ changedCell s j L (cond (t && eqb j i) (done e (cell j r)) (cell j r))
-    go ih true = ih (put r i e) (omega (arith, put-length r i e)) ∙ ap (changedCell s j L) (put-cell j i e r h)
-    go ih false = ih r h
+    go ih true = ih (put r i e) (put-length r i e) ∙ ap (changedCell s j L) (h p i e (here refl) r refl)
+    go ih false = ih r refl
+
+changed-cell : (s j : ℕ) (L : Layer) (r : Row) → j < length r → cell j (changed s L r) ≡ changedCell s j L (cell j r)
+changed-cell s j L r h = changed-by s j L r (λ p i e m x k. put-cell j i e x (omega arith))
 
 -- where changes leave the key alone, rows of any length will do
 key-cell : (s : ℕ) (L : Layer) (r : Row) → KeyKept L → cell 0 (changed s L r) ≡ changedCell s 0 L (cell 0 r)
-key-cell s [] r kk = refl
-key-cell s (at p (add q) ∷ L) r kk = key-cell s L r (λ p′ i f m. kk p′ i f (next m))
-key-cell s (at p (strike k) ∷ L) r kk = key-cell s L r (λ p′ i f m. kk p′ i f (next m))
-key-cell s (at p (change i e) ∷ L) r kk = go (λ q. key-cell s L q (λ p′ i′ f m. kk p′ i′ f (next m))) (eqb s p)
-  where
-    other : 0 ≡ i → ⊥
-    other g = omega (arith, kk p i e (here refl))
-
-    go : ((q : Row) → cell 0 (changed s L q) ≡ changedCell s 0 L (cell 0 q)) → (t : Bool)
-        → cell 0 (changed s L (cond t (put r i e) r)) ≡ changedCell s 0 L (cond (t && eqb 0 i) (done e (cell 0 r)) (cell 0 r))
-    go ih true = rw (ne-eqb 0 i other) (ih (put r i e) ∙ ap (changedCell s 0 L) (put-elsewhere r i 0 e other))
-    go ih false = ih r
+key-cell s L r kk = changed-by s 0 L r (λ p i e m x k.
+    let other : 0 ≡ i → ⊥ = λ g. omega (arith, kk p i e m) in rw (ne-eqb 0 i other) (put-elsewhere x i 0 e other))
 
 -- a column where every base row's cell reads as the cell alone does
 by-cell : (j : ℕ) (T : Table) (L : Layer)

@@ -1,50 +1,64 @@
--- Combining: R with W's strikes, changes and adds redone by key as edits keeps form and fits, and reads as R and then W in turn.
+-- Combining: R with W's strikes, changes and adds redone by key as edits keeps form and fits, and reads as R and then
+-- W in turn.
 -- Assumes nothing.
 use mathlib.Core.Path.{_≡_, refl, sym, ap, _∙_, subst}
-use mathlib.Core.Logic.{⊎-elim}
 use mathlib.Core.Bool.{Bool, true, false, cond, _&&_, true≢false}
 use mathlib.Core.List.{List, [], _∷_, List·Memᴰ as Mem, List·Memᴰ·head as here, List·Memᴰ·tail as next}
 use Prim.Native.Nat.{ℕ, _≤_, _<_}
 use lib.ListN.{length, getD}
 use lib.Dec.{leb, ltb, eqb}
-use borrow.Author.Tests.{ltb-true, leb-true, eqb-true}
+use borrow.Author.Tests.{ltb-true, leb-true, eqb-true, ne-eqb}
 use Rattle.order.specs.Lists.{gather, inTurn}
 use Rattle.order.proofs.Tests.{tests, and-l, and-r, and-of}
-use Rattle.order.proofs.Members.{insert-mem, mem-map, map-mem}
 use Rattle.order.proofs.Pairs.{AllPairs}
-use Rattle.order.proofs.Ascending.{AscFrom, At, at-mem, at-cast, at-same, mem-at}
-use Rattle.order.proofs.Edited.{turn-keeps}
-use Rattle.order.proofs.Gather.{turn-gather}
+use Rattle.order.proofs.Ascending.{AscFrom, At, at-mem, at-cast, mem-at}
+use Rattle.order.proofs.Gather.{turn-append}
 use Rattle.model.specs.Row.{Row, Table, key, keys}
-use Rattle.model.specs.Cell.{CellEdit}
-use Rattle.model.specs.Layer.{Deed, add, strike, change, Edit, at, Layer, rowsAfter, struck}
+use Rattle.model.specs.Cell.{CellEdit, put}
+use Rattle.model.specs.Layer.{Deed, add, strike, change, Edit, at, Layer, rowsAfter}
 use Rattle.model.specs.Limits.{mostRows}
 use Rattle.model.specs.Form.{inOrder, keepsForm}
 use Rattle.model.specs.Fit.{fits}
 use Rattle.model.specs.Read.{read, keysAfter}
 use Rattle.model.specs.Edits.{deedBefore, before, addRow, strikeRow, changeRowNo, rowOfKey}
-use Rattle.model.specs.Meaning.{keyOf, concerning, meaning}
+use Rattle.model.specs.Meaning.{keyOf, concerning, meaning, Found, row, missing, lookup, changeFound}
 use Rattle.model.specs.Redo.{
   doStrike,
   doChange,
   doAdd,
   redo,
   strikeKey,
-  putKey,
   changeKey,
-  rowBefore,
   addKey,
   onTable,
   onLayer,
   combine,
 }
-use Rattle.model.proofs.Layer.{of-struck, struck-of}
+use Rattle.model.proofs.Layer.{by-kind}
 use Rattle.model.proofs.Edits.{level}
 use Rattle.model.proofs.Fit.{Good, key-kept, key-of, good-of, good-form, good-fits}
 use Rattle.model.proofs.Count.{read-ascends, read-length}
-use Rattle.model.proofs.Redo.{redoStrikes, redoChanges, redoAdds, strike-mem, mem-strike, putKey-key, read-redo}
 use Rattle.model.proofs.Column.{keys-read}
-use Rattle.model.proofs.Meaning.{one-position, changed-kept}
+use Rattle.model.proofs.Meaning.{done-if, done-not, one-position, changed-kept}
+use Rattle.model.proofs.Lookup.{
+  lookup-mem,
+  lookup-found,
+  lookup-missing,
+  strikes-none,
+  changes-missing,
+  strike-here,
+  added-free,
+}
+use Rattle.model.proofs.Redo.{
+  redoStrikes,
+  redoChanges,
+  lookup-strike,
+  lookup-change,
+  lookup-add,
+  lookup-strikes,
+  lookup-left,
+  read-redo,
+}
 use Rattle.model.proofs.Joined.{
   strikeDeeds,
   changeDeeds,
@@ -68,191 +82,135 @@ use Rattle.model.proofs.Edited.{
   row-of-key,
 }
 
--- a key is shown, a key is not shown
-abbrev Present : ℕ → Table → Type 0
-Present k M = (q : Row) × Mem q M × (key q ≡ k)
-
-abbrev Absent : ℕ → Table → Type 0
-Absent k M = (q : Row) → Mem q M → key q ≡ k → ⊥
-
--- An edit by key on a layer reads as the same edit by key on the table, and does the same to the deeds for a key.
-module _ (c : ℕ) (T : Table) (a : AscFrom key 0 T) (L : Layer) (M : Table) (S : Reads c T L M) where
-  present : (k : ℕ) → Present k M → (q : Row) × At q (rowOfKey (keys T) L k) 0 (read T L) × (key q ≡ k)
-  present k w =
-      let z = mem-at 0 (read T L) (w .0) (rw (S .reads) (w .1)) in
-      (w .0, at-cast (sym (row-of-key T L a (S .good .fit) (z .0) (w .0) (z .1)) ∙ ap (rowOfKey (keys T) L) (w .2)) (z .1), w .2)
-
-  pub strike-by-key : (k : ℕ) → Present k M → Reads c T (strikeRow (keys T) (rowOfKey (keys T) L k) L) (strikeKey k M)
-  strike-by-key k w =
-      let z = present k w in
-      record {
-        good = strike-good c T L a (S .good) (rowOfKey (keys T) L k) (z .0) (z .1);
-        reads = strike-reads c T L a (S .good) (rowOfKey (keys T) L k) (z .0) (z .1)
-            ∙ (ap (λ (l : ℕ). strikeKey l (read T L)) (z .2) ∙ ap (strikeKey k) (S .reads));
-      }
-
-  strike-by-key-means : (l k : ℕ) → Present l M → meaning (keys T) (strikeRow (keys T) (rowOfKey (keys T) L l) L) k
-      ≡ cond (eqb l k) (strikeDeeds l (meaning (keys T) L k)) (meaning (keys T) L k)
-  strike-by-key-means l k w =
-      let z = present l w in
-      strike-means T L a (S .good .fit) k (rowOfKey (keys T) L l) (z .0) (z .1)
-      ∙ ap (λ (t : ℕ). cond (eqb t k) (strikeDeeds t (meaning (keys T) L k)) (meaning (keys T) L k)) (z .2)
-
-  change-by-key-means : (l k j : ℕ) (e : CellEdit) → 1 ≤ j → Present l M
-      → meaning (keys T) (changeRowNo (keys T) (rowOfKey (keys T) L l) j e L) k
-      ≡ cond (eqb l k) (changeDeeds j e (meaning (keys T) L k)) (meaning (keys T) L k)
-  change-by-key-means l k j e past w =
-      let z = present l w in
-      change-means T L a (S .good .fit) k (rowOfKey (keys T) L l) (z .0) (z .1) j e past
-      ∙ ap (λ (t : ℕ). cond (eqb t k) (changeDeeds j e (meaning (keys T) L k)) (meaning (keys T) L k)) (z .2)
-
-  pub change-by-key : (k j : ℕ) (e : CellEdit) → 1 ≤ j → j < c → Present k M
-      → Reads c T (changeRowNo (keys T) (rowOfKey (keys T) L k) j e L) (changeKey k j e M)
-  change-by-key k j e past within w =
-      let z = present k w in
-      record {
-        good = change-good c T L a (S .good) (rowOfKey (keys T) L k) (z .0) (z .1) j e past within;
-        reads = change-reads c T L a (S .good) (rowOfKey (keys T) L k) (z .0) (z .1) j e past within
-            ∙ (ap (λ (l : ℕ). changeKey l j e (read T L)) (z .2) ∙ ap (changeKey k j e) (S .reads));
-      }
-
-  pub add-by-key : (r : Row) → length r ≡ c → Absent (key r) M → Reads c T (addRow (keys T) r L) (addKey r M)
-  add-by-key r len h =
-      let free : (q : Row) → Mem q (read T L) → key q ≡ key r → ⊥ = λ q m. h q (rw (S .reads) at m) in
-      record {
-        good = add-good c T L a (S .good) r len free;
-        reads = add-reads c T L a (S .good) r len free ∙ ap (addKey r) (S .reads);
-      }
-
 -- The layer L is good, reads as the table M, and means the deeds ds for the key k.
 pub record Joins (c : ℕ) (T : Table) (k : ℕ) (L : Layer) (M : Table) (ds : List Deed) : Type 0 where
   pub reads : Reads c T L M
   pub means : meaning (keys T) L k ≡ ds
 
--- a deed done to the deeds for a key, where it concerns the key
-done-if : (f : Deed → List Deed → List Deed) (t : Bool) (d : Deed) (ds : List Deed)
-    → cond t (f d ds) ds ≡ inTurn f (cond t (d ∷ []) []) ds
-done-if f true d ds = refl
-done-if f false d ds = refl
+-- An edit by key on a layer reads as the same edit by key on the table, and does the same to the deeds for a key.
+module _ (c : ℕ) (T : Table) (a : AscFrom key 0 T) (k : ℕ) (L : Layer) (M : Table) (ds : List Deed)
+    (S : Joins c T k L M ds) where
+  good : Good c T L
+  good = S .reads .good
 
--- a deed that does nothing
-done-not : (f : Deed → List Deed → List Deed) (t : Bool) (d : Deed) (ds : List Deed) → f d ds ≡ ds
-    → ds ≡ inTurn f (cond t (d ∷ []) []) ds
-done-not f true d ds h = sym h
-done-not f false d ds h = refl
+  -- a row stands at the row number of its key
+  row-place : (q : Row) → Mem q M → At q (rowOfKey (keys T) L (key q)) 0 (read T L)
+  row-place q m =
+      let w = mem-at 0 (read T L) q (rw (S .reads .reads) m) in
+      at-cast (sym (row-of-key T L a (good .fit) (w .0) q (w .1))) (w .1)
 
--- Edits in turn, where each may be done and leaves those after it so.
-in-turn : (c : ℕ) (T : Table) (k : ℕ) (f : Edit → Layer → Layer) (g : Edit → Table → Table) (h : Edit → List Deed → List Deed)
-    (May : Edit → Table → Type 0) (Z : Layer)
-    → ((e : Edit) (L : Layer) (M : Table) (ds : List Deed) → Mem e Z → Joins c T k L M ds → May e M → Joins c T k (f e L) (g e M) (h e ds))
-    → ((d e : Edit) (M : Table) → Mem d Z → Mem e Z → before d e ≡ true → May e M → May e (g d M))
-    → AllPairs before Z → (L : Layer) (M : Table) (ds : List Deed) → Joins c T k L M ds → ((e : Edit) → Mem e Z → May e M)
-    → Joins c T k (inTurn f Z L) (inTurn g Z M) (inTurn h Z ds)
-in-turn c T k f g h May [] step keep o L M ds S may = S
-in-turn c T k f g h May (x ∷ Z) step keep o L M ds S may =
-    in-turn c T k f g h May Z (λ e L′ M′ ds′ m. step e L′ M′ ds′ (next m)) (λ d e M′ m n. keep d e M′ (next m) (next n)) (o .1) (f x L) (g x M) (h x ds)
-    (step x L M ds (here refl) S (may x (here refl))) (λ e m. keep x e M (here refl) (next m) (o .0 e m) (may e (next m)))
+  -- a deed that does nothing
+  idle : (to : Deed → List Deed → List Deed) (t : Bool) (d : Deed) → to d ds ≡ ds
+      → Joins c T k L M (inTurn to (cond t (d ∷ []) []) ds)
+  idle to t d h = record { reads = S .reads; means = S .means ∙ done-not to t d ds h }
 
--- what keeps a key from being shown
-strike-absent : (k l : ℕ) (M : Table) → Absent k M → Absent k (strikeKey l M)
-strike-absent k l M h q m = h q ((strike-mem l M q m) .0)
+  strike-joins : (q : Row) → Mem q M → Joins c T k (strikeRow (keys T) (rowOfKey (keys T) L (key q)) L) (strikeKey (key q) M)
+      (inTurn strikeTo (cond (eqb (key q) k) (strike (key q) ∷ []) []) ds)
+  strike-joins q m =
+      let i = rowOfKey (keys T) L (key q) in
+      let n = row-place q m in
+      record {
+        reads = record {
+          good = strike-good c T L a good i q n;
+          reads = strike-reads c T L a good i q n ∙ ap (strikeKey (key q)) (S .reads .reads);
+        };
+        means = strike-means T L a (good .fit) k i q n
+            ∙ (ap (λ (x : List Deed). cond (eqb (key q) k) (strikeDeeds (key q) x) x) (S .means)
+            ∙ done-if strikeTo (eqb (key q) k) (strike (key q)) ds);
+      }
 
-change-absent : (k l j : ℕ) (e : CellEdit) (M : Table) → 1 ≤ j → Absent k M → Absent k (changeKey l j e M)
-change-absent k l j e M past h q m g =
-    let w = map-mem (putKey l j e) M q m in h (w .0) (w .1) (sym (putKey-key l j e (w .0) past) ∙ (sym (ap key (w .2)) ∙ g))
+  change-joins : (q : Row) → Mem q M → (j : ℕ) (e : CellEdit) → 1 ≤ j → j < c
+      → Joins c T k (changeRowNo (keys T) (rowOfKey (keys T) L (key q)) j e L) (changeKey (key q) j e M)
+      (inTurn changeTo (cond (eqb (key q) k) (change j e ∷ []) []) ds)
+  change-joins q m j e past within =
+      let i = rowOfKey (keys T) L (key q) in
+      let n = row-place q m in
+      record {
+        reads = record {
+          good = change-good c T L a good i q n j e past within;
+          reads = change-reads c T L a good i q n j e past within ∙ ap (changeKey (key q) j e) (S .reads .reads);
+        };
+        means = change-means T L a (good .fit) k i q n j e past
+            ∙ (ap (λ (x : List Deed). cond (eqb (key q) k) (changeDeeds j e x) x) (S .means)
+            ∙ done-if changeTo (eqb (key q) k) (change j e) ds);
+      }
 
-strikes-absent : (k : ℕ) (Z : Layer) (M : Table) → Absent k M → Absent k (redoStrikes Z M)
-strikes-absent k Z M h = turn-keeps (Absent k) (doStrike onTable) Z M each h
-  where
-    each : (e : Edit) → Mem e Z → (N : Table) → Absent k N → Absent k (doStrike onTable e N)
-    each (at s (add r)) m N f = f
-    each (at s (strike l)) m N f = strike-absent k l N f
-    each (at s (change j e)) m N f = f
+  add-joins : (r : Row) → length r ≡ c → lookup (key r) M ≡ missing
+      → Joins c T k (addRow (keys T) r L) (addKey r M) (inTurn addTo (cond (eqb (key r) k) (add r ∷ []) []) ds)
+  add-joins r len h =
+      let free =
+      lookup-missing (read T L) (read-ascends T L a (good .fit)) (key r) (ap (lookup (key r)) (S .reads .reads) ∙ h) in
+      record {
+        reads = record {
+          good = add-good c T L a good r len free;
+          reads = add-reads c T L a good r len free ∙ ap (addKey r) (S .reads .reads);
+        };
+        means = add-means T L a (good .fit) k r
+            ∙ (ap (λ (x : List Deed). cond (eqb (key r) k) (addDeeds r x) x) (S .means)
+            ∙ done-if addTo (eqb (key r) k) (add r) ds);
+      }
 
--- a struck key is not shown
-struck-absent : (s k : ℕ) (Z : Layer) (M : Table) → Mem (at s (strike k)) Z → Absent k (redoStrikes Z M)
-struck-absent s k (x ∷ Z) M (next m) = struck-absent s k Z (doStrike onTable x M) m
-struck-absent s k (x ∷ Z) M (here e) =
-    rw (← e) (strikes-absent k Z (strikeKey k M) (λ q m. (strike-mem k M q m) .1))
+-- Edits of W done in turn, where each may be done and leaves those after it so.
+module _ (c : ℕ) (T : Table) (K : List ℕ) (k : ℕ) (W : Layer) (o : AllPairs before W)
+    (f : Edit → Layer → Layer) (g : Edit → Table → Table) (to : Deed → List Deed → List Deed) (May : Edit → Table → Type 0)
+    (step : (e : Edit) → Mem e W → (L : Layer) (M : Table) (ds : List Deed) → Joins c T k L M ds → May e M
+    → Joins c T k (f e L) (g e M) (inTurn to (concerning K k e) ds))
+    (keep : (d e : Edit) → Mem d W → Mem e W → before d e ≡ true → (M : Table) → May e M → May e (g d M)) where
+  walk : (Z : Layer) → ((e : Edit) → Mem e Z → Mem e W) → AllPairs before Z → (L : Layer) (M : Table) (ds : List Deed)
+      → Joins c T k L M ds → ((e : Edit) → Mem e Z → May e M)
+      → Joins c T k (inTurn f Z L) (inTurn g Z M) (inTurn to (gather (concerning K k) Z) ds)
+  walk [] sub p L M ds S may = S
+  walk (x ∷ Z) sub p L M ds S may =
+      rw (turn-append to (concerning K k x) (gather (concerning K k) Z) ds)
+      (walk Z (λ e m. sub e (next m)) (p .1) (f x L) (g x M) (inTurn to (concerning K k x) ds)
+      (step x (sub x (here refl)) L M ds S (may x (here refl)))
+      (λ e m. keep x e (sub x (here refl)) (sub e (next m)) (p .0 e m) M (may e (next m))))
 
--- the rows after strikes were there before
-struck-from : (Z : Layer) (M : Table) (q : Row) → Mem q (redoStrikes Z M) → Mem q M
-struck-from [] M q m = m
-struck-from (at s (add r) ∷ Z) M q m = struck-from Z M q m
-struck-from (at s (strike k) ∷ Z) M q m = (strike-mem k M q (struck-from Z (strikeKey k M) q m)) .0
-struck-from (at s (change j e) ∷ Z) M q m = struck-from Z M q m
+  in-turn : (L : Layer) (M : Table) (ds : List Deed) → Joins c T k L M ds → ((e : Edit) → Mem e W → May e M)
+      → Joins c T k (inTurn f W L) (inTurn g W M) (inTurn to (meaning K W k) ds)
+  unfolding meaning
+  in-turn = walk W (λ e m. m) o
 
--- what each edit of W asks for: the struck key and the changed key are shown, the added key is not
+-- what each edit of W asks for: the struck key and the changed key have a row, the added key has none
+abbrev Present : ℕ → Table → Type 0
+Present l M = (q : Row) × (lookup l M ≡ row q)
+
 abbrev CanStrike : Edit → Table → Type 0
 CanStrike (at s (add r)) M = Unit {0}
-CanStrike (at s (strike k)) M = Present k M
+CanStrike (at s (strike l)) M = Present l M
 CanStrike (at s (change j e)) M = Unit {0}
 
 abbrev CanChange : List ℕ → Edit → Table → Type 0
 CanChange K (at s (add r)) M = Unit {0}
-CanChange K (at s (strike k)) M = Unit {0}
+CanChange K (at s (strike l)) M = Unit {0}
 CanChange K (at s (change j e)) M = Present (getD K s 0) M
 
 abbrev CanAdd : Edit → Table → Type 0
-CanAdd (at s (add r)) M = Absent (key r) M
-CanAdd (at s (strike k)) M = Unit {0}
+CanAdd (at s (add r)) M = lookup (key r) M ≡ missing
+CanAdd (at s (strike l)) M = Unit {0}
 CanAdd (at s (change j e)) M = Unit {0}
 
+-- a row that is changed is still there
+still-present : (l i j : ℕ) (e : CellEdit) (M : Table) → 1 ≤ j → Present l M → Present l (changeKey i j e M)
+still-present l i j e M past (q, h) =
+    either (eqb i l) (lookup-change l i j e M past ∙ ap (λ (x : Found). cond (eqb i l) (changeFound (change j e) x) x) h)
+  where
+    either : (t : Bool) → lookup l (changeKey i j e M) ≡ cond t (row (put q j e)) (row q) → Present l (changeKey i j e M)
+    either true g = (put q j e, g)
+    either false g = (q, g)
+
 -- W over what is read through R, both good.
-module _ (c : ℕ) (T : Table) (R W : Layer) (a : AscFrom key 0 T) (GR : Good c T R) (GW : Good c (read T R) W) (k : ℕ) where
-  ascends : AscFrom key 0 (read T R)
-  ascends = read-ascends T R a (GR .fit)
+module _ (c : ℕ) (T : Table) (R W : Layer) (a : AscFrom key 0 T) (GR : Good c T R) (GW : Good c (read T R) W) where
+  abbrev K : List ℕ
+  K = keys (read T R)
+
+  rises : AscFrom key 0 (read T R)
+  rises = read-ascends T R a (GR .fit)
 
   -- two edits of W that concern one key stand at one position, so in the order of their deeds
-  one-key : (p s : ℕ) (d e : Deed) → Mem (at p d) W → Mem (at s e) W
-      → keyOf (keys (read T R)) (at p d) ≡ keyOf (keys (read T R)) (at s e)
+  one-key : (p s : ℕ) (d e : Deed) → Mem (at p d) W → Mem (at s e) W → keyOf K (at p d) ≡ keyOf K (at s e)
       → before (at p d) (at s e) ≡ true → deedBefore d e ≡ true
-  one-key p s d e m n k h = level p s d e (one-position (read T R) W ascends (GW .fit) p s d e m n k) h
-
-  struckLayer : Layer
-  struckLayer = inTurn (doStrike (onLayer (keys T))) W R
-
-  struckTable : Table
-  struckTable = redoStrikes W (read T R)
-
-  -- the deeds for k, once the strikes are done, the changes, the adds
-  concerns : Edit → List Deed
-  concerns = concerning (keys (read T R)) k
-
-  struckDeeds : List Deed
-  struckDeeds = inTurn (λ e. inTurn strikeTo (concerns e)) W (meaning (keys T) R k)
-
-  strikes-done : Joins c T k struckLayer struckTable struckDeeds
-  unfolding struckLayer struckTable struckDeeds concerns
-  strikes-done =
-      in-turn c T k (doStrike (onLayer (keys T))) (doStrike onTable) (λ e. inTurn strikeTo (concerning (keys (read T R)) k e)) CanStrike W step keep
-      (GW .fit .sorted) R (read T R) (meaning (keys T) R k) (record { reads = record { good = GR; reads = refl }; means = refl }) can
-    where
-      step : (e : Edit) (L : Layer) (M : Table) (ds : List Deed) → Mem e W → Joins c T k L M ds → CanStrike e M
-          → Joins c T k (doStrike (onLayer (keys T)) e L) (doStrike onTable e M) (inTurn strikeTo (concerning (keys (read T R)) k e) ds)
-      step (at s (add r)) L M ds m S w = record { reads = S .reads; means = S .means ∙ done-not strikeTo (eqb (key r) k) (add r) ds refl }
-      step (at s (strike l)) L M ds m S w = record {
-        reads = strike-by-key c T a L M (S .reads) l w;
-        means = strike-by-key-means c T a L M (S .reads) l k w
-            ∙ (ap (λ (x : List Deed). cond (eqb l k) (strikeDeeds l x) x) (S .means) ∙ done-if strikeTo (eqb l k) (strike l) ds);
-      }
-      step (at s (change j e)) L M ds m S w = record { reads = S .reads; means = S .means ∙ done-not strikeTo (eqb (getD (keys (read T R)) s 0) k) (change j e) ds refl }
-
-      keep : (d e : Edit) (M : Table) → Mem d W → Mem e W → before d e ≡ true → CanStrike e M → CanStrike e (doStrike onTable d M)
-      keep d (at s (add r)) M m n h w = tt
-      keep d (at s (change j e)) M m n h w = tt
-      keep (at p (add r)) (at s (strike l)) M m n h w = w
-      keep (at p (change j e)) (at s (strike l)) M m n h w = w
-      keep (at p (strike k)) (at s (strike l)) M m n h w = (
-        w .0,
-        mem-strike k M (w .0) (w .1) (λ g. true≢false (sym (one-key p s (strike k) (strike l) m n (sym g ∙ w .2) h))),
-        w .2,
-      )
-
-      can : (e : Edit) → Mem e W → CanStrike e (read T R)
-      can (at s (add r)) m = tt
-      can (at s (strike k)) m = let w = GW .fit .strikes s k m in (w .0, at-mem (w .1), w .2)
-      can (at s (change j e)) m = tt
+  one-key p s d e m n h b = level p s d e (one-position (read T R) W rises (GW .fit) p s d e m n h) b
 
   -- a change of W is of a column past the key
   columns : (s j : ℕ) (e : CellEdit) → Mem (at s (change j e)) W → (1 ≤ j) × (j < c)
@@ -261,144 +219,117 @@ module _ (c : ℕ) (T : Table) (R W : Layer) (a : AscFrom key 0 T) (GR : Good c 
       (leb-true 1 j (and-l (leb 1 j) (ltb j c) w), ltb-true j c (and-r (leb 1 j) (ltb j c) w))
 
   -- a row that W changes is there after the strikes
-  row-stays : (s j : ℕ) (e : CellEdit) → Mem (at s (change j e)) W → Present (getD (keys (read T R)) s 0) struckTable
-  unfolding struckTable
+  row-stays : (s j : ℕ) (e : CellEdit) → Mem (at s (change j e)) W → Present (getD K s 0) (redoStrikes W (read T R))
   row-stays s j e m =
       let w = GW .fit .changes s j e m in
-      (w .0, turn-keeps (λ M. Mem (w .0) M) (doStrike onTable) W (read T R) (each (w .0) (w .1)) (at-mem (w .1)), sym (key-of (w .1)))
-    where
-      each : (q : Row) → At q s 0 (read T R) → (d : Edit) → Mem d W → (M : Table) → Mem q M → Mem q (doStrike onTable d M)
-      each q n (at p (add r)) k M f = f
-      each q n (at p (change i g)) k M f = f
-      each q n (at p (strike l)) k M f = mem-strike l M q f no
-        where
-          no : key q ≡ l → ⊥
-          no g =
-              let ps : p ≡ s = one-position (read T R) W ascends (GW .fit) p s (strike l) (change j e) k m (sym g ∙ sym (key-of n)) in
-              true≢false (sym (ap (λ (t : ℕ). struck t W) (sym ps) ∙ struck-of p l W k) ∙ changed-kept W (GW .fit .sorted) s j e m)
-
-  changedLayer : Layer
-  changedLayer = inTurn (doChange (onLayer (keys T)) (keys (read T R))) W struckLayer
-
-  changedTable : Table
-  changedTable = redoChanges (keys (read T R)) W struckTable
-
-  changedDeeds : List Deed
-  changedDeeds = inTurn (λ e. inTurn changeTo (concerns e)) W struckDeeds
-
-  changes-done : Joins c T k changedLayer changedTable changedDeeds
-  unfolding changedLayer changedTable changedDeeds concerns
-  changes-done =
-      in-turn c T k (doChange (onLayer (keys T)) K) (doChange onTable K) (λ e. inTurn changeTo (concerning K k e)) (CanChange K) W step keep
-      (GW .fit .sorted) struckLayer struckTable struckDeeds strikes-done can
-    where
-      K : List ℕ
-      K = keys (read T R)
-
-      step : (e : Edit) (L : Layer) (M : Table) (ds : List Deed) → Mem e W → Joins c T k L M ds → CanChange K e M
-          → Joins c T k (doChange (onLayer (keys T)) K e L) (doChange onTable K e M) (inTurn changeTo (concerning K k e) ds)
-      step (at s (add r)) L M ds m S w = record { reads = S .reads; means = S .means ∙ done-not changeTo (eqb (key r) k) (add r) ds refl }
-      step (at s (strike l)) L M ds m S w = record { reads = S .reads; means = S .means ∙ done-not changeTo (eqb l k) (strike l) ds refl }
-      step (at s (change j e)) L M ds m S w =
-          let h = columns s j e m in
-          record {
-            reads = change-by-key c T a L M (S .reads) (getD K s 0) j e (h .0) (h .1) w;
-            means = change-by-key-means c T a L M (S .reads) (getD K s 0) k j e (h .0) w
-                ∙ (ap (λ (x : List Deed). cond (eqb (getD K s 0) k) (changeDeeds j e x) x) (S .means)
-                ∙ done-if changeTo (eqb (getD K s 0) k) (change j e) ds);
-          }
-
-      keep : (d e : Edit) (M : Table) → Mem d W → Mem e W → before d e ≡ true → CanChange K e M
-          → CanChange K e (doChange onTable K d M)
-      keep d (at s (add r)) M m n h w = tt
-      keep d (at s (strike k)) M m n h w = tt
-      keep (at p (add r)) (at s (change j e)) M m n h w = w
-      keep (at p (strike k)) (at s (change j e)) M m n h w = w
-      keep (at p (change i f)) (at s (change j e)) M m n h w = (
-        putKey (getD K p 0) i f (w .0),
-        mem-map (putKey (getD K p 0) i f) M (w .0) (w .1),
-        putKey-key (getD K p 0) i f (w .0) ((columns p i f m) .0) ∙ w .2,
+      let l = getD K s 0 in
+      let kq : key (w .0) ≡ l = sym (key-of (w .1)) in (
+        w .0,
+        lookup-strikes l K W (read T R)
+            ∙ (strikes-none (meaning K W l) (lookup l (read T R)) (λ i n.
+            true≢false (sym (strike-here (read T R) W rises (GW .fit) l s (w .0) (w .1) kq i n)
+            ∙ changed-kept W (GW .fit .sorted) s j e m))
+            ∙ lookup-mem (read T R) rises l (w .0) (at-mem (w .1)) kq),
       )
 
-      can : (e : Edit) → Mem e W → CanChange K e struckTable
-      can (at s (add r)) m = tt
-      can (at s (strike k)) m = tt
-      can (at s (change j e)) m = row-stays s j e m
+  -- a key that W adds has no row after the strikes, nor after the changes
+  key-free : (s : ℕ) (r : Row) → Mem (at s (add r)) W → lookup (key r) (redoChanges K W (redoStrikes W (read T R))) ≡ missing
+  key-free s r m =
+      lookup-left (key r) K W (key-kept (read T R) W (GW .fit)) (read T R)
+      ∙ (ap (inTurn changeFound (meaning K W (key r))) (added-free (read T R) W rises (GW .fit) (key r) s r m refl)
+      ∙ changes-missing (meaning K W (key r)))
 
-  -- a key that W adds is not shown after the strikes, nor after the changes
-  key-gone : (s : ℕ) (r : Row) → Mem (at s (add r)) W → Absent (key r) struckTable
-  unfolding struckTable
-  key-gone s r m q n e =
-      let z = mem-at 0 (read T R) q (struck-from W (read T R) q n) in
-      let w = of-struck (z .0) W (GW .fit .fresh s r m (z .0) q (z .1) e) in
-      let y = GW .fit .strikes (z .0) (w .0) (w .1) in
-      struck-absent (z .0) (w .0) W (read T R) (w .1) q n (ap key (at-same (z .1) (y .1)) ∙ y .2)
+  -- the strikes, the changes, the adds of W done to R, and to its deeds for the key k
+  module _ (k : ℕ) where
+    abbrev Ends : (Edit → Layer → Layer) → (Edit → Table → Table) → (Deed → List Deed → List Deed) → Layer → Table
+        → List Deed → Type 0
+    Ends f g to L M ds = Joins c T k (inTurn f W L) (inTurn g W M) (inTurn to (meaning K W k) ds)
 
-  key-free : (s : ℕ) (r : Row) → Mem (at s (add r)) W → Absent (key r) changedTable
-  unfolding changedTable
-  key-free s r m = turn-keeps (Absent (key r)) (doChange onTable (keys (read T R))) W struckTable each (key-gone s r m)
-    where
-      each : (e : Edit) → Mem e W → (M : Table) → Absent (key r) M → Absent (key r) (doChange onTable (keys (read T R)) e M)
-      each (at p (add q)) n M f = f
-      each (at p (strike k)) n M f = f
-      each (at p (change j e)) n M f = change-absent (key r) (getD (keys (read T R)) p 0) j e M ((columns p j e n) .0) f
+    strike-step : (e : Edit) → Mem e W → (L : Layer) (M : Table) (ds : List Deed) → Joins c T k L M ds → CanStrike e M
+        → Joins c T k (doStrike (onLayer (keys T)) e L) (doStrike onTable e M) (inTurn strikeTo (concerning K k e) ds)
+    strike-step (at s (add r)) m L M ds S w = idle c T a k L M ds S strikeTo (eqb (key r) k) (add r) refl
+    strike-step (at s (change j e)) m L M ds S w = idle c T a k L M ds S strikeTo (eqb (getD K s 0) k) (change j e) refl
+    strike-step (at s (strike l)) m L M ds S w =
+        let z = lookup-found M l (w .0) (w .1) in rw (← z .1) (strike-joins c T a k L M ds S (w .0) (z .0))
 
-  adds-done : Joins c T k (inTurn (doAdd (onLayer (keys T))) W changedLayer) (redoAdds W changedTable)
-      (inTurn (λ e. inTurn addTo (concerns e)) W changedDeeds)
-  unfolding concerns
-  adds-done =
-      in-turn c T k (doAdd (onLayer (keys T))) (doAdd onTable) (λ e. inTurn addTo (concerning (keys (read T R)) k e)) CanAdd W step keep
-      (GW .fit .sorted) changedLayer changedTable changedDeeds changes-done can
-    where
-      step : (e : Edit) (L : Layer) (M : Table) (ds : List Deed) → Mem e W → Joins c T k L M ds → CanAdd e M
-          → Joins c T k (doAdd (onLayer (keys T)) e L) (doAdd onTable e M) (inTurn addTo (concerning (keys (read T R)) k e) ds)
-      step (at s (add r)) L M ds m S w = record {
-        reads = add-by-key c T a L M (S .reads) r
-            (eqb-true (length r) c (and-r (leb s (length (read T R))) (eqb (length r) c) (GW .each (at s (add r)) m))) w;
-        means = add-means T L a (S .reads .good .fit) k r
-            ∙ (ap (λ (x : List Deed). cond (eqb (key r) k) (addDeeds r x) x) (S .means) ∙ done-if addTo (eqb (key r) k) (add r) ds);
-      }
-      step (at s (strike l)) L M ds m S w = record { reads = S .reads; means = S .means ∙ done-not addTo (eqb l k) (strike l) ds refl }
-      step (at s (change j e)) L M ds m S w = record { reads = S .reads; means = S .means ∙ done-not addTo (eqb (getD (keys (read T R)) s 0) k) (change j e) ds refl }
+    strike-keep : (d e : Edit) → Mem d W → Mem e W → before d e ≡ true → (M : Table) → CanStrike e M
+        → CanStrike e (doStrike onTable d M)
+    strike-keep d (at s (add r)) m n h M w = tt
+    strike-keep d (at s (change j e)) m n h M w = tt
+    strike-keep (at p (add r)) (at s (strike l)) m n h M w = w
+    strike-keep (at p (change j e)) (at s (strike l)) m n h M w = w
+    strike-keep (at p (strike i)) (at s (strike l)) m n h M w =
+        let e : eqb i l ≡ false = ne-eqb i l (λ il. true≢false (sym (one-key p s (strike i) (strike l) m n il h))) in
+        (w .0, lookup-strike l i M ∙ (ap (λ (t : Bool). cond t missing (lookup l M)) e ∙ w .1))
 
-      keep : (d e : Edit) (M : Table) → Mem d W → Mem e W → before d e ≡ true → CanAdd e M → CanAdd e (doAdd onTable d M)
-      keep d (at s (strike k)) M m n h w = tt
-      keep d (at s (change j e)) M m n h w = tt
-      keep (at p (strike k)) (at s (add r)) M m n h w = w
-      keep (at p (change j e)) (at s (add r)) M m n h w = w
-      keep (at p (add x)) (at s (add r)) M m n h w = λ q k g.
-          ⊎-elim (λ f. other (sym (ap key f) ∙ g)) (λ z. w q z g) (insert-mem rowBefore x M q k)
-        where
-          other : key x ≡ key r → ⊥
-          other g = omega (tests, one-key p s (add x) (add r) m n g h)
+    strikes-done : (L : Layer) (ds : List Deed) → Joins c T k L (read T R) ds
+        → Ends (doStrike (onLayer (keys T))) (doStrike onTable) strikeTo L (read T R) ds
+    strikes-done L ds S =
+        in-turn c T K k W (GW .fit .sorted) (doStrike (onLayer (keys T)))
+        (doStrike onTable) strikeTo CanStrike strike-step strike-keep L (read T R) ds S
+        (by-kind (λ e. CanStrike e (read T R)) W (λ s r m. tt)
+        (λ s l m. let w = GW .fit .strikes s l m in
+        (w .0, lookup-mem (read T R) rises l (w .0) (at-mem (w .1)) (w .2))) (λ s j e m. tt))
 
-      can : (e : Edit) → Mem e W → CanAdd e changedTable
-      can (at s (add r)) m = key-free s r m
-      can (at s (strike k)) m = tt
-      can (at s (change j e)) m = tt
+    change-step : (e : Edit) → Mem e W → (L : Layer) (M : Table) (ds : List Deed) → Joins c T k L M ds → CanChange K e M
+        → Joins c T k (doChange (onLayer (keys T)) K e L) (doChange onTable K e M) (inTurn changeTo (concerning K k e) ds)
+    change-step (at s (add r)) m L M ds S w = idle c T a k L M ds S changeTo (eqb (key r) k) (add r) refl
+    change-step (at s (strike l)) m L M ds S w = idle c T a k L M ds S changeTo (eqb l k) (strike l) refl
+    change-step (at s (change j e)) m L M ds S w =
+        let h = columns s j e m in
+        let z = lookup-found M (getD K s 0) (w .0) (w .1) in
+        rw (← z .1) (change-joins c T a k L M ds S (w .0) (z .0) j e (h .0) (h .1))
 
-  -- the combined layer, as the lower with the upper redone on it
-  combined : Joins c T k (combine (keys T) R W) (redo onTable (keys (read T R)) W (read T R))
-      (joined (meaning (keys T) R k) (meaning (keys (read T R)) W k))
-  unfolding combine struckLayer struckTable changedLayer changedTable struckDeeds changedDeeds concerns joined meaning
-  combined =
-      subst (λ (K : List ℕ). Joins c T k (redo (onLayer (keys T)) K W R) (redo onTable (keys (read T R)) W (read T R))
-      (joined (meaning (keys T) R k) (meaning (keys (read T R)) W k))) (sym (keys-read T R (key-kept T R (GR .fit))))
-      (record { reads = adds-done .reads; means = adds-done .means ∙ sym folded })
-    where
-      f : Edit → List Deed
-      f = concerning (keys (read T R)) k
+    change-keep : (d e : Edit) → Mem d W → Mem e W → before d e ≡ true → (M : Table) → CanChange K e M
+        → CanChange K e (doChange onTable K d M)
+    change-keep d (at s (add r)) m n h M w = tt
+    change-keep d (at s (strike l)) m n h M w = tt
+    change-keep (at p (add r)) (at s (change j e)) m n h M w = w
+    change-keep (at p (strike l)) (at s (change j e)) m n h M w = w
+    change-keep (at p (change i f)) (at s (change j e)) m n h M w =
+        still-present (getD K s 0) (getD K p 0) i f M ((columns p i f m) .0) w
 
-      ds : List Deed
-      ds = gather (concerning (keys T) k) R
+    changes-done : (L : Layer) (ds : List Deed) → Joins c T k L (redoStrikes W (read T R)) ds
+        → Ends (doChange (onLayer (keys T)) K) (doChange onTable K) changeTo L (redoStrikes W (read T R)) ds
+    changes-done L ds S =
+        in-turn c T K k W (GW .fit .sorted) (doChange (onLayer (keys T)) K) (doChange onTable K) changeTo
+        (CanChange K) change-step change-keep
+        L (redoStrikes W (read T R)) ds S
+        (by-kind (λ e. CanChange K e (redoStrikes W (read T R))) W (λ s r m. tt) (λ s l m. tt) row-stays)
 
-      folded : inTurn addTo (gather f W) (inTurn changeTo (gather f W) (inTurn strikeTo (gather f W) ds))
-          ≡ inTurn (λ e. inTurn addTo (f e)) W (inTurn (λ e. inTurn changeTo (f e)) W (inTurn (λ e. inTurn strikeTo (f e)) W ds))
-      folded =
-          turn-gather f addTo W (inTurn changeTo (gather f W) (inTurn strikeTo (gather f W) ds))
-          ∙ ap (inTurn (λ e. inTurn addTo (f e)) W)
-          (turn-gather f changeTo W (inTurn strikeTo (gather f W) ds)
-          ∙ ap (inTurn (λ e. inTurn changeTo (f e)) W) (turn-gather f strikeTo W ds))
+    add-step : (e : Edit) → Mem e W → (L : Layer) (M : Table) (ds : List Deed) → Joins c T k L M ds → CanAdd e M
+        → Joins c T k (doAdd (onLayer (keys T)) e L) (doAdd onTable e M) (inTurn addTo (concerning K k e) ds)
+    add-step (at s (strike l)) m L M ds S w = idle c T a k L M ds S addTo (eqb l k) (strike l) refl
+    add-step (at s (change j e)) m L M ds S w = idle c T a k L M ds S addTo (eqb (getD K s 0) k) (change j e) refl
+    add-step (at s (add r)) m L M ds S w =
+        add-joins c T a k L M ds S r
+        (eqb-true (length r) c (and-r (leb s (length (read T R))) (eqb (length r) c) (GW .each (at s (add r)) m))) w
+
+    add-keep : (d e : Edit) → Mem d W → Mem e W → before d e ≡ true → (M : Table) → CanAdd e M → CanAdd e (doAdd onTable d M)
+    add-keep d (at s (strike l)) m n h M w = tt
+    add-keep d (at s (change j e)) m n h M w = tt
+    add-keep (at p (strike l)) (at s (add r)) m n h M w = w
+    add-keep (at p (change j e)) (at s (add r)) m n h M w = w
+    add-keep (at p (add x)) (at s (add r)) m n h M w =
+        let e : eqb (key x) (key r) ≡ false =
+        ne-eqb (key x) (key r) (λ g. omega (tests, one-key p s (add x) (add r) m n g h)) in
+        lookup-add (key r) x M ∙ (ap (λ (t : Bool). cond t (row x) (lookup (key r) M)) e ∙ w)
+
+    adds-done : (L : Layer) (ds : List Deed) → Joins c T k L (redoChanges K W (redoStrikes W (read T R))) ds
+        → Ends (doAdd (onLayer (keys T))) (doAdd onTable) addTo L (redoChanges K W (redoStrikes W (read T R))) ds
+    adds-done L ds S =
+        in-turn c T K k W (GW .fit .sorted) (doAdd (onLayer (keys T))) (doAdd onTable) addTo CanAdd add-step add-keep
+        L (redoChanges K W (redoStrikes W (read T R))) ds S
+        (by-kind (λ e. CanAdd e (redoChanges K W (redoStrikes W (read T R)))) W key-free (λ s l m. tt) (λ s j e m. tt))
+
+    -- the combined layer, as the lower with the upper redone on it
+    combined : Joins c T k (combine (keys T) R W) (redo onTable K W (read T R)) (joined (meaning (keys T) R k) (meaning K W k))
+    unfolding combine joined
+    combined =
+        subst (λ (X : List ℕ). Joins c T k (redo (onLayer (keys T)) X W R) (redo onTable K W (read T R))
+        (joined (meaning (keys T) R k) (meaning K W k))) (sym (keys-read T R (key-kept T R (GR .fit))))
+        (adds-done _ _ (changes-done _ _
+        (strikes-done R (meaning (keys T) R k) (record { reads = record { good = GR; reads = refl }; means = refl }))))
 
 -- W over what is read through R, both good: what the combined layer is.
 module _ (c : ℕ) (T : Table) (R W : Layer) (a : AscFrom key 0 T) (GR : Good c T R) (GW : Good c (read T R) W) where
@@ -408,10 +339,12 @@ module _ (c : ℕ) (T : Table) (R W : Layer) (a : AscFrom key 0 T) (GR : Good c 
 
   -- it reads as R and then W in turn
   pub combine-reads : read T (combine (keys T) R W) ≡ read (read T R) W
-  combine-reads = combined c T R W a GR GW 0 .reads .reads ∙ sym (read-redo (read T R) W (read-ascends T R a (GR .fit)) (GW .fit))
+  combine-reads =
+      combined c T R W a GR GW 0 .reads .reads ∙ sym (read-redo (read T R) W (read-ascends T R a (GR .fit)) (GW .fit))
 
   -- and for each key it means what R means with what W means done to it
-  pub meaning-combined : (k : ℕ) → meaning (keys T) (combine (keys T) R W) k ≡ joined (meaning (keys T) R k) (meaning (keys (read T R)) W k)
+  pub meaning-combined : (k : ℕ)
+      → meaning (keys T) (combine (keys T) R W) k ≡ joined (meaning (keys T) R k) (meaning (keys (read T R)) W k)
   meaning-combined k = combined c T R W a GR GW k .means
 
   -- with the same row total

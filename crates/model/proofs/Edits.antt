@@ -3,13 +3,13 @@
 use mathlib.Core.Path.{_≡_, refl, sym, ap, _∙_}
 use mathlib.Core.Logic.{_⊎_, inl, inr, ⊎-elim}
 use mathlib.Core.Bool.{Bool, true, false, not, cond, _&&_, _||_, true≢false, or-false}
-use Prim.Native.Nat.{ℕ, zero, suc, _≤_, _<_}
+use Prim.Native.Nat.{ℕ, _<_}
 use native.Mathlib.Omega.{arith}
-use lib.Dec.{leb, ltb, eqb}
-use borrow.Author.Tests.{ltb-true, lt-ltb, eq-eqb, eqb-true, ne-eqb}
+use lib.Dec.{ltb, eqb}
+use borrow.Author.Tests.{lt-ltb, eq-eqb, ne-eqb}
 use Rattle.order.proofs.Tests.{tests, or-l, or-r, lex-cases, lex-lt, lex-eq}
 use Rattle.model.specs.Row.{Row, key}
-use Rattle.model.specs.Cell.{CellEdit, to}
+use Rattle.model.specs.Cell.{to}
 use Rattle.model.specs.Layer.{Deed, add, strike, change, Edit, at, position}
 use Rattle.model.specs.Form.{after, follows}
 use Rattle.model.specs.Fit.{keysRise, rises}
@@ -67,9 +67,6 @@ deed-asym (change j f) (change i g) a b = omega tests
 pub before-cases : (p s : ℕ) (d e : Deed) → before (at p d) (at s e) ≡ true → (p < s) ⊎ ((p ≡ s) × (deedBefore d e ≡ true))
 before-cases p s d e h = lex-cases p s (deedBefore d e) h
 
-pub before-pos : (d e : Edit) → before d e ≡ true → position d ≤ position e
-before-pos (at p d) (at s e) h = ⊎-elim (λ l. omega arith) (λ w. omega (arith, w .0)) (before-cases p s d e h)
-
 pub before-lt : (d e : Edit) → position d < position e → before d e ≡ true
 before-lt (at p d) (at s e) h = lex-lt p s (deedBefore d e) h
 
@@ -79,7 +76,8 @@ before-eq p s d e h t = lex-eq p s (deedBefore d e) h t
 pub before-trans : (d e f : Edit) → before d e ≡ true → before e f ≡ true → before d f ≡ true
 before-trans (at p d) (at s e) (at t f) a b = go (before-cases p s d e a) (before-cases s t e f b)
   where
-    go : (p < s) ⊎ ((p ≡ s) × (deedBefore d e ≡ true)) → (s < t) ⊎ ((s ≡ t) × (deedBefore e f ≡ true)) → before (at p d) (at t f) ≡ true
+    go : (p < s) ⊎ ((p ≡ s) × (deedBefore d e ≡ true)) → (s < t) ⊎ ((s ≡ t) × (deedBefore e f ≡ true))
+        → before (at p d) (at t f) ≡ true
     go (inl x) (inl y) = lex-lt p t (deedBefore d f) (omega arith)
     go (inl x) (inr y) = lex-lt p t (deedBefore d f) (omega (arith, y .0))
     go (inr x) (inl y) = lex-lt p t (deedBefore d f) (omega (arith, x .0))

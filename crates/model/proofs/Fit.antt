@@ -1,4 +1,4 @@
--- A layer that keeps form and fits a table, as facts about its edits; the tests of the paper say just these facts.
+-- A layer that keeps form and fits a table, as facts about its edits; the tests of the scope say just these facts.
 -- Assumes nothing.
 use mathlib.Core.Path.{_≡_, refl, sym, ap, _∙_, subst}
 use mathlib.Core.Logic.{_⊎_, inl, inr}
@@ -10,7 +10,7 @@ use lib.ListN.{length, getD, length-map, List·getD-map}
 use lib.Dec.{leb, ltb, eqb}
 use borrow.Author.Tests.{ltb-true, ltb-false, lt-ltb, leb-true, leb-false, lt-leb, eqb-true, eq-eqb}
 use Rattle.order.specs.Lists.{count, leastBroken}
-use Rattle.order.proofs.Tests.{tests, and-l, and-r, and-of, or-cases}
+use Rattle.order.proofs.Tests.{tests, and-l, and-r, and-of, or-cases, not-passed}
 use Rattle.order.proofs.Counts.{count-le, count-map}
 use Rattle.order.proofs.Pairs.{AllPairs, pairs-both, pairs-weaker, Unbroken, broken-le, unbroken, none-broken}
 use Rattle.order.proofs.Ascending.{
@@ -119,7 +119,8 @@ module _ (T : Table) (a : AscFrom key 0 T) where
           omega (arith, below-at s h, count-mono key T k (getD (keys T) s 0) ((under-key L s k h e) .0))
 
 -- the tests say the facts
-module _ (c : ℕ) (T : Table) (L : Layer) (a : AscFrom key 0 T) (fm : inOrder c (length T) L ≡ true) (ft : fits (keys T) L ≡ true) where
+module _ (c : ℕ) (T : Table) (L : Layer) (a : AscFrom key 0 T) (fm : inOrder c (length T) L ≡ true)
+    (ft : fits (keys T) L ≡ true) where
   formed : Unbroken (sound c (length T)) follows [] L
   unfolding inOrder
   formed = unbroken (sound c (length T)) follows [] L (eqb-true (leastBroken (sound c (length T)) follows [] L) (length L) fm)
@@ -131,12 +132,20 @@ module _ (c : ℕ) (T : Table) (L : Layer) (a : AscFrom key 0 T) (fm : inOrder c
   add-sits : (s : ℕ) (r : Row) → Mem (at s (add r)) L → count (below key (key r)) T ≡ s
   add-sits s r m =
       let g = fitted .each (at s (add r)) m in
-      let h : s ≤ length T = leb-true s (length T) (and-l (leb s (length T)) (eqb (length r) c) (formed .each (at s (add r)) m)) in
+      let h : s ≤ length T =
+      leb-true s (length T) (and-l (leb s (length T)) (eqb (length r) c) (formed .each (at s (add r)) m)) in
       omega (
         arith,
         above-count T a s (key r) h (and-l (above (keys T) s (key r)) (under (keys T) L s (key r)) g),
         under-count T a L s (key r) (and-r (above (keys T) s (key r)) (under (keys T) L s (key r)) g),
       )
+
+  add-fresh : (s : ℕ) (r : Row) → Mem (at s (add r)) L → (i : ℕ) (q : Row) → At q i 0 T → key q ≡ key r → struck i L ≡ true
+  add-fresh s r m i q n e =
+      let is : i ≡ s = omega (arith, at-count key 0 0 T a q i n, add-sits s r m, ap (λ (k : ℕ). count (below key k) T) e) in
+      let u = and-r (above (keys T) s (key r)) (under (keys T) L s (key r)) (fitted .each (at s (add r)) m) in
+      ap (λ (t : ℕ). struck t L) is
+      ∙ (under-key T a L s (key r) (omega (arith, at-length n)) u) .1 (sym (key-of (at-cast is n) ∙ e))
 
   base-at : (s : ℕ) → ltb s (length T) ≡ true → At (getD T s []) s 0 T
   base-at s h = getD-at T s [] (ltb-true s (length T) h)
@@ -146,13 +155,7 @@ module _ (c : ℕ) (T : Table) (L : Layer) (a : AscFrom key 0 T) (fm : inOrder c
     each = formed .each;
     fit = record {
       sits = add-sits;
-      fresh = λ s r m i q n e.
-          let is : i ≡ s = omega (arith, at-count key 0 0 T a q i n, add-sits s r m, ap (λ (k : ℕ). count (below key k) T) e) in
-          let h : s < length T = omega (arith, at-length n) in
-          let kq : getD (keys T) s 0 ≡ key q = key-of (at-cast is n) in
-          ap (λ (t : ℕ). struck t L) is
-          ∙ (under-key T a L s (key r) h (and-r (above (keys T) s (key r)) (under (keys T) L s (key r)) (fitted .each (at s (add r)) m))) .1
-          (sym (kq ∙ e));
+      fresh = add-fresh;
       strikes = λ s k m.
           let n = base-at s (formed .each (at s (strike k)) m) in
           (getD T s [], n, sym (key-of n) ∙ eqb-true (getD (keys T) s 0) k (fitted .each (at s (strike k)) m));
@@ -178,6 +181,16 @@ module _ (c : ℕ) (T : Table) (L : Layer) (a : AscFrom key 0 T) (G : Good c T L
       let h : s < length T = omega (arith, count-le (below key k) T) in
       lt-ltb (getD (keys T) s 0) k (count-rise key T (getD (keys T) s 0) k (omega (arith, below-at T a s h)))
 
+  -- an add at s is not above row s
+  not-above : (s : ℕ) (r : Row) → Mem (at s (add r)) L → s < length T → ltb (getD (keys T) s 0) (key r) ≡ false
+  not-above s r m h = not-passed (ltb (getD (keys T) s 0) (key r)) (λ g. omega (
+    arith,
+    G .fit .sits s r m,
+    getD-count key T a s [] h,
+    count-strict key T (getD T s []) (key r) (at-mem (getD-at T s [] h))
+        (omega (arith, keys-at T s, ltb-true (getD (keys T) s 0) (key r) g)),
+  ))
+
   under-of : (s : ℕ) (r : Row) → Mem (at s (add r)) L → under (keys T) L s (key r) ≡ true
   under-of s r m = go (leb (length (keys T)) s) refl (ltb (key r) (getD (keys T) s 0)) refl
     where
@@ -187,18 +200,9 @@ module _ (c : ℕ) (T : Table) (L : Layer) (a : AscFrom key 0 T) (G : Good c T L
       go false e true f = refl
       go false e false f =
           let h : s < length T = omega (arith, keys-length T, leb-false (length (keys T)) s e) in
-          let k : getD (keys T) s 0 ≡ key r = same h (ltb (getD (keys T) s 0) (key r)) refl in
+          let k : getD (keys T) s 0 ≡ key r = omega (tests, not-above s r m h) in
           rw (eq-eqb (key r) (getD (keys T) s 0) (sym k))
           (G .fit .fresh s r m s (getD T s []) (getD-at T s [] h) (sym (keys-at T s) ∙ k))
-        where
-          same : s < length T → (w : Bool) → ltb (getD (keys T) s 0) (key r) ≡ w → getD (keys T) s 0 ≡ key r
-          same h true g = absurd (omega (
-            arith,
-            G .fit .sits s r m,
-            getD-count key T a s [] h,
-            count-strict key T (getD T s []) (key r) (at-mem (getD-at T s [] h)) (omega (arith, keys-at T s, ltb-true (getD (keys T) s 0) (key r) g)),
-          ))
-          same h false g = omega tests
 
   pub good-fits : fits (keys T) L ≡ true
   unfolding fits fitPlace
@@ -208,6 +212,7 @@ module _ (c : ℕ) (T : Table) (L : Layer) (a : AscFrom key 0 T) (G : Good c T L
     where
       each : (e : Edit) → Mem e L → suits (keys T) L e ≡ true
       each (at s (add r)) m =
-          and-of (above (keys T) s (key r)) (under (keys T) L s (key r)) (above-of s (key r) (G .fit .sits s r m)) (under-of s r m)
+          and-of (above (keys T) s (key r)) (under (keys T) L s (key r)) (above-of s (key r) (G .fit .sits s r m))
+          (under-of s r m)
       each (at s (strike k)) m = let w = G .fit .strikes s k m in eq-eqb (getD (keys T) s 0) k (key-of (w .1) ∙ w .2)
       each (at s (change j e)) m = refl

@@ -1,9 +1,9 @@
--- A layer by its members: the rows that it adds at a position, the rows that it strikes, what it makes of a row.
+-- A layer by its members: how many of a kind pass a test, the rows that it adds at a position, the rows that it
+-- strikes, what it makes of a row.
 -- Assumes nothing.
 use mathlib.Core.Path.{_≡_, refl, sym, ap, _∙_}
-use mathlib.Core.Bool.{Bool, true, false, cond, _&&_, _||_, true≢false}
+use mathlib.Core.Bool.{Bool, true, false, cond, true≢false}
 use mathlib.Core.List.{
-  List,
   [],
   _∷_,
   List·Memᴰ as Mem,
@@ -12,25 +12,30 @@ use mathlib.Core.List.{
   List·Memᴰ·not-nil as not-nil,
   Memᴰ·cast as mem-cast,
 }
-use Prim.Native.Nat.{ℕ, zero, suc, _≤_, _<_}
-use native.Mathlib.Omega.{arith}
+use Prim.Native.Nat.{ℕ, _+_, _≤_}
 use lib.ListN.{length}
-use lib.Dec.{eqb, ltb}
-use borrow.Author.Tests.{eqb-true, eqb-false, eq-eqb, ne-eqb}
-use Rattle.order.specs.Lists.{any, gather, inTurn}
+use lib.Dec.{eqb}
+use borrow.Author.Tests.{eqb-true, eq-eqb, ne-eqb}
+use Rattle.order.specs.Lists.{one, count}
+use Rattle.order.proofs.Tests.{and-l}
+use Rattle.order.proofs.Counts.{count-same, count-sum, count-zero}
+use Rattle.order.proofs.Edited.{turn-keeps, turn-past}
 use Rattle.order.proofs.Members.{any-mem, any-of, any-none, gather-mem, mem-gather}
 use Rattle.model.specs.Row.{Row, key}
 use Rattle.model.specs.Cell.{CellEdit, agree, put}
 use Rattle.model.specs.Layer.{
-  Deed,
   add,
   strike,
   change,
   Edit,
   at,
   Layer,
+  onAdd,
+  onStrike,
   addedBy,
   strikesRow,
+  changesRow,
+  changesCell,
   changeRow,
   addsAt,
   struck,
@@ -38,11 +43,52 @@ use Rattle.model.specs.Layer.{
 }
 use Rattle.model.proofs.Cell.{put-key, put-length, put-comm}
 
+-- what is so of the adds, the strikes and the changes of a layer is so of its edits
+pub by-kind : (Q : Edit → Type 0) (L : Layer) → ((p : ℕ) (r : Row) → Mem (at p (add r)) L → Q (at p (add r)))
+    → ((p k : ℕ) → Mem (at p (strike k)) L → Q (at p (strike k)))
+    → ((p j : ℕ) (e : CellEdit) → Mem (at p (change j e)) L → Q (at p (change j e))) → (e : Edit) → Mem e L → Q e
+by-kind Q L a s c (at p (add r)) m = a p r m
+by-kind Q L a s c (at p (strike k)) m = s p k m
+by-kind Q L a s c (at p (change j e)) m = c p j e m
+
+-- how many adds, or strikes, pass a test: compared edit by edit of that kind alone
+module _ (L : Layer) where
+  pub adds-same : (f g : ℕ → Row → Bool) → ((p : ℕ) (r : Row) → Mem (at p (add r)) L → one (f p r) ≡ one (g p r))
+      → count (onAdd f) L ≡ count (onAdd g) L
+  adds-same f g h =
+      count-same (onAdd f) (onAdd g) L (by-kind (λ e. one (onAdd f e) ≡ one (onAdd g e)) L h (λ p k m. refl) (λ p j e m. refl))
+
+  pub adds-sum : (f g h : ℕ → Row → Bool)
+      → ((p : ℕ) (r : Row) → Mem (at p (add r)) L → one (f p r) + one (g p r) ≡ one (h p r))
+      → count (onAdd f) L + count (onAdd g) L ≡ count (onAdd h) L
+  adds-sum f g h w =
+      count-sum (onAdd f) (onAdd g) (onAdd h) L
+      (by-kind (λ e. one (onAdd f e) + one (onAdd g e) ≡ one (onAdd h e)) L w (λ p k m. refl) (λ p j e m. refl))
+
+  pub adds-zero : (f : ℕ → Row → Bool) → ((p : ℕ) (r : Row) → Mem (at p (add r)) L → one (f p r) ≡ 0) → count (onAdd f) L ≡ 0
+  adds-zero f h = count-zero (onAdd f) L (by-kind (λ e. one (onAdd f e) ≡ 0) L h (λ p k m. refl) (λ p j e m. refl))
+
+  pub strikes-same : (f g : ℕ → ℕ → Bool) → ((p k : ℕ) → Mem (at p (strike k)) L → one (f p k) ≡ one (g p k))
+      → count (onStrike f) L ≡ count (onStrike g) L
+  strikes-same f g h =
+      count-same (onStrike f) (onStrike g) L
+      (by-kind (λ e. one (onStrike f e) ≡ one (onStrike g e)) L (λ p r m. refl) h (λ p j e m. refl))
+
+  pub strikes-sum : (f g h : ℕ → ℕ → Bool) → ((p k : ℕ) → Mem (at p (strike k)) L → one (f p k) + one (g p k) ≡ one (h p k))
+      → count (onStrike f) L + count (onStrike g) L ≡ count (onStrike h) L
+  strikes-sum f g h w =
+      count-sum (onStrike f) (onStrike g) (onStrike h) L
+      (by-kind (λ e. one (onStrike f e) + one (onStrike g e) ≡ one (onStrike h e)) L (λ p r m. refl) w (λ p j e m. refl))
+
+  pub strikes-zero : (f : ℕ → ℕ → Bool) → ((p k : ℕ) → Mem (at p (strike k)) L → one (f p k) ≡ 0) → count (onStrike f) L ≡ 0
+  strikes-zero f h = count-zero (onStrike f) L (by-kind (λ e. one (onStrike f e) ≡ 0) L (λ p r m. refl) h (λ p j e m. refl))
+
 -- the added rows at s are those of the adds at s
 pub adds-mem : (s : ℕ) (L : Layer) (r : Row) → Mem r (addsAt s L) → Mem (at s (add r)) L
 adds-mem s L r m = let w = gather-mem (addedBy s) L r m in go (w .0) (w .1) (w .2)
   where
-    one : (p : ℕ) (q : Row) → Mem (at p (add q)) L → (t : Bool) → eqb s p ≡ t → Mem r (cond t (q ∷ []) []) → Mem (at s (add r)) L
+    one : (p : ℕ) (q : Row) → Mem (at p (add q)) L → (t : Bool) → eqb s p ≡ t → Mem r (cond t (q ∷ []) [])
+        → Mem (at s (add r)) L
     one p q n true e (here f) = mem-cast {b = at p (add q)} (cc (eqb-true s p e)) n
     one p q n true e (next k) = absurd (not-nil k)
     one p q n false e k = absurd (not-nil k)
@@ -68,68 +114,56 @@ pub struck-of : (s k : ℕ) (L : Layer) → Mem (at s (strike k)) L → struck s
 struck-of s k L m = any-of (strikesRow s) L (at s (strike k)) m (eq-eqb s s refl)
 
 pub struck-none : (s : ℕ) (L : Layer) → ((p k : ℕ) → Mem (at p (strike k)) L → s ≡ p → ⊥) → struck s L ≡ false
-struck-none s L h = any-none (strikesRow s) L each
+struck-none s L h =
+    any-none (strikesRow s) L
+    (by-kind (λ e. strikesRow s e ≡ false) L (λ p r m. refl) (λ p k m. ne-eqb s p (h p k m)) (λ p j e m. refl))
+
+-- a change of a cell is a change of its row
+pub cell-of-row : (s j : ℕ) (e : Edit) → changesCell s j e ≡ true → changesRow s e ≡ true
+cell-of-row s j (at p (add r)) h = h
+cell-of-row s j (at p (strike k)) h = h
+cell-of-row s j (at p (change i f)) h = and-l (eqb s p) _ h
+
+-- an edit does nothing to row s, or puts a cell of it
+pub by-change : (s : ℕ) (L : Layer) (Q : (Row → Row) → Type 0) → Q (λ x. x)
+    → ((j : ℕ) (e : CellEdit) → Mem (at s (change j e)) L → Q (λ x. put x j e)) → (e : Edit) → Mem e L → Q (changeRow s e)
+by-change s L Q same puts (at p (add r)) m = same
+by-change s L Q same puts (at p (strike k)) m = same
+by-change s L Q same puts (at p (change j e)) m = go (eqb s p) refl
   where
-    each : (e : Edit) → Mem e L → strikesRow s e ≡ false
-    each (at p (add r)) m = refl
-    each (at p (strike k)) m = ne-eqb s p (h p k m)
-    each (at p (change j e)) m = refl
+    go : (t : Bool) → eqb s p ≡ t → Q (λ x. cond t (put x j e) x)
+    go true f = puts j e (mem-cast {b = at p (change j e)} (ap (λ (i : ℕ). at i (change j e)) (eqb-true s p f)) m)
+    go false f = same
+
+-- what each of its changes keeps of a row, they keep
+pub changed-keeps : (Q : Row → Type 0) (s : ℕ) (L : Layer) (r : Row)
+    → ((j : ℕ) (e : CellEdit) → Mem (at s (change j e)) L → (x : Row) → Q x → Q (put x j e)) → Q r → Q (changed s L r)
+changed-keeps Q s L r puts h =
+    turn-keeps Q (changeRow s) L r (by-change s L (λ f. (x : Row) → Q x → Q (f x)) (λ x q. q) puts) h
 
 -- a row keeps its key where every change leaves the key alone
 abbrev pub KeyKept : Layer → Type 0
 KeyKept L = (s j : ℕ) (e : CellEdit) → Mem (at s (change j e)) L → 1 ≤ j
 
 pub changed-key : (s : ℕ) (L : Layer) (r : Row) → KeyKept L → key (changed s L r) ≡ key r
-changed-key s [] r h = refl
-changed-key s (at p (add q) ∷ L) r h = changed-key s L r (λ p′ j′ e′ m. h p′ j′ e′ (next m))
-changed-key s (at p (strike k) ∷ L) r h = changed-key s L r (λ p′ j′ e′ m. h p′ j′ e′ (next m))
-changed-key s (at p (change j e) ∷ L) r h =
-    changed-key s L (cond (eqb s p) (put r j e) r) (λ p′ j′ e′ m. h p′ j′ e′ (next m))
-    ∙ elim (eqb s p) as (λ t. key (cond t (put r j e) r) ≡ key r) [ true ↦ put-key r j e (h p j e (here refl)) | false ↦ refl ]
+changed-key s L r h = changed-keeps (λ x. key x ≡ key r) s L r (λ j e m x k. put-key x j e (h s j e m) ∙ k) refl
 
 pub changed-length : (s : ℕ) (L : Layer) (r : Row) → length (changed s L r) ≡ length r
-changed-length s [] r = refl
-changed-length s (at p (add q) ∷ L) r = changed-length s L r
-changed-length s (at p (strike k) ∷ L) r = changed-length s L r
-changed-length s (at p (change j e) ∷ L) r =
-    changed-length s L (cond (eqb s p) (put r j e) r)
-    ∙ elim (eqb s p) as (λ t. length (cond t (put r j e) r) ≡ length r) [ true ↦ put-length r j e | false ↦ refl ]
-
--- a row that no change is of stays
-pub changed-none : (s : ℕ) (L : Layer) (q : Row) → ((p j : ℕ) (e : CellEdit) → Mem (at p (change j e)) L → s ≡ p → ⊥) → changed s L q ≡ q
-changed-none s [] q h = refl
-changed-none s (at p (add r) ∷ L) q h = changed-none s L q (λ p′ j′ e′ m. h p′ j′ e′ (next m))
-changed-none s (at p (strike k) ∷ L) q h = changed-none s L q (λ p′ j′ e′ m. h p′ j′ e′ (next m))
-changed-none s (at p (change j e) ∷ L) q h =
-    rw (ne-eqb s p (h p j e (here refl))) (changed-none s L q (λ p′ j′ e′ m. h p′ j′ e′ (next m)))
+changed-length s L r = changed-keeps (λ x. length x ≡ length r) s L r (λ j e m x k. put-length x j e ∙ k) refl
 
 -- two layers whose changes of row s trade places
 abbrev pub Trade : ℕ → Layer → Layer → Type 0
 Trade s X Y = (j i : ℕ) (e f : CellEdit) → Mem (at s (change j e)) X → Mem (at s (change i f)) Y → j ≡ i → agree e f ≡ true
 
 put-changed : (s : ℕ) (L : Layer) (q : Row) (j : ℕ) (e : CellEdit)
-    → ((i : ℕ) (f : CellEdit) → Mem (at s (change i f)) L → j ≡ i → agree e f ≡ true) → changed s L (put q j e) ≡ put (changed s L q) j e
-put-changed s [] q j e h = refl
-put-changed s (at p (add r) ∷ L) q j e h = put-changed s L q j e (λ i f m. h i f (next m))
-put-changed s (at p (strike k) ∷ L) q j e h = put-changed s L q j e (λ i f m. h i f (next m))
-put-changed s (at p (change i f) ∷ L) q j e h = go (eqb s p) refl (λ q′. put-changed s L q′ j e (λ i′ f′ m. h i′ f′ (next m)))
-  where
-    go : (t : Bool) → eqb s p ≡ t → ((q′ : Row) → changed s L (put q′ j e) ≡ put (changed s L q′) j e)
-        → changed s L (cond t (put (put q j e) i f) (put q j e)) ≡ put (changed s L (cond t (put q i f) q)) j e
-    go true g ih =
-        rw (put-comm q j i e f (h i f (here {x = at p (change i f)} (ap (λ (t : ℕ). at t (change i f)) (eqb-true s p g))))) (ih (put q i f))
-    go false g ih = ih q
+    → ((i : ℕ) (f : CellEdit) → Mem (at s (change i f)) L → j ≡ i → agree e f ≡ true)
+    → changed s L (put q j e) ≡ put (changed s L q) j e
+put-changed s L q j e h =
+    turn-past (changeRow s) (λ x. put x j e) L q
+    (by-change s L (λ f. (x : Row) → f (put x j e) ≡ put (f x) j e) (λ x. refl) (λ i f m x. put-comm x j i e f (h i f m)))
 
 pub changed-comm : (s : ℕ) (X Y : Layer) (q : Row) → Trade s X Y → changed s X (changed s Y q) ≡ changed s Y (changed s X q)
-changed-comm s [] Y q h = refl
-changed-comm s (at p (add r) ∷ X) Y q h = changed-comm s X Y q (λ j i e f m n. h j i e f (next m) n)
-changed-comm s (at p (strike k) ∷ X) Y q h = changed-comm s X Y q (λ j i e f m n. h j i e f (next m) n)
-changed-comm s (at p (change j e) ∷ X) Y q h = go (eqb s p) refl (λ q′. changed-comm s X Y q′ (λ j′ i e′ f m n. h j′ i e′ f (next m) n))
-  where
-    go : (t : Bool) → eqb s p ≡ t → ((q′ : Row) → changed s X (changed s Y q′) ≡ changed s Y (changed s X q′))
-        → changed s X (cond t (put (changed s Y q) j e) (changed s Y q)) ≡ changed s Y (changed s X (cond t (put q j e) q))
-    go true g ih =
-        ap (changed s X) (sym (put-changed s Y q j e
-        (λ i f m. h j i e f (here {x = at p (change j e)} (ap (λ (t : ℕ). at t (change j e)) (eqb-true s p g))) m)))
-        ∙ ih (put q j e)
-    go false g ih = ih q
+changed-comm s X Y q h =
+    turn-past (changeRow s) (changed s Y) X q
+    (by-change s X (λ f. (x : Row) → f (changed s Y x) ≡ changed s Y (f x)) (λ x. refl)
+    (λ j e m x. sym (put-changed s Y x j e (λ i f n. h j i e f m n))))

@@ -20,9 +20,9 @@ use native.Mathlib.Omega.{arith}
 use lib.ListN.{getD}
 use lib.Dec.{eqb}
 use borrow.Author.Tests.{eqb-true, eq-eqb}
-use Rattle.order.specs.Lists.{count}
+use Rattle.order.specs.Lists.{count, inTurn}
 use Rattle.order.proofs.Members.{gather-mem, mem-gather}
-use Rattle.order.proofs.Tests.{tests, not-passed}
+use Rattle.order.proofs.Tests.{tests, impossible, not-passed}
 use Rattle.order.proofs.Pairs.{AllPairs, pairs-two}
 use Rattle.order.proofs.Ascending.{AscFrom, At, below, at-count}
 use Rattle.model.specs.Row.{Row, Table, key, keys}
@@ -55,6 +55,24 @@ pub mem-meaning : (K : List ℕ) (L : Layer) (k s : ℕ) (d : Deed) → Mem (at 
 unfolding meaning
 mem-meaning K L k s d m e = mem-gather (concerning K k) L (at s d) d m (rw (eq-eqb (keyOf K (at s d)) k e) (here refl))
 
+-- what is so of the adds, the strikes and the changes among deeds is so of them all
+pub by-deed : (Q : Deed → Type 0) (ds : List Deed) → ((r : Row) → Mem (add r) ds → Q (add r))
+    → ((k : ℕ) → Mem (strike k) ds → Q (strike k))
+    → ((j : ℕ) (e : CellEdit) → Mem (change j e) ds → Q (change j e)) → (d : Deed) → Mem d ds → Q d
+by-deed Q ds a s c (add r) m = a r m
+by-deed Q ds a s c (strike k) m = s k m
+by-deed Q ds a s c (change j e) m = c j e m
+
+-- a deed done where it concerns the key, and one that does nothing
+module _ {S : Type 0} (f : Deed → S → S) where
+  pub done-if : (t : Bool) (d : Deed) (x : S) → cond t (f d x) x ≡ inTurn f (cond t (d ∷ []) []) x
+  done-if true d x = refl
+  done-if false d x = refl
+
+  pub done-not : (t : Bool) (d : Deed) (x : S) → f d x ≡ x → x ≡ inTurn f (cond t (d ∷ []) []) x
+  done-not true d x h = sym h
+  done-not false d x h = refl
+
 -- an edit's position is the number of keys below the one that it concerns
 module _ (T : Table) (L : Layer) (a : AscFrom key 0 T) (F : Fit T L) where
   row-position : (s : ℕ) (q : Row) (k : ℕ) → At q s 0 T → key q ≡ k → count (below key k) T ≡ s
@@ -63,7 +81,8 @@ module _ (T : Table) (L : Layer) (a : AscFrom key 0 T) (F : Fit T L) where
   pub position-of : (s : ℕ) (d : Deed) → Mem (at s d) L → count (below key (keyOf (keys T) (at s d))) T ≡ s
   position-of s (add r) m = F .sits s r m
   position-of s (strike k) m = let w = F .strikes s k m in row-position s (w .0) k (w .1) (w .2)
-  position-of s (change j e) m = let w = F .changes s j e m in row-position s (w .0) (getD (keys T) s 0) (w .1) (sym (key-of (w .1)))
+  position-of s (change j e) m =
+      let w = F .changes s j e m in row-position s (w .0) (getD (keys T) s 0) (w .1) (sym (key-of (w .1)))
 
   -- so two edits that concern one key stand at one position
   pub one-position : (p s : ℕ) (d e : Deed) → Mem (at p d) L → Mem (at s e) L
@@ -79,8 +98,9 @@ changed-kept L o s j e m = not-passed (struck s L) no
     no u = let w = of-struck s L u in go (w .0) (pairs-two before L o (at s (change j e)) (at s (strike (w .0))) m (w .1))
       where
         go : (k : ℕ) → (at s (change j e) ≡ at s (strike k))
-            ⊎ ((before (at s (change j e)) (at s (strike k)) ≡ true) ⊎ (before (at s (strike k)) (at s (change j e)) ≡ true)) → ⊥
-        go k (inl h) = let z : _≡_ {A = ℕ} 0 1 = cc in omega arith
+            ⊎ ((before (at s (change j e)) (at s (strike k)) ≡ true)
+            ⊎ (before (at s (strike k)) (at s (change j e)) ≡ true)) → ⊥
+        go k (inl h) = impossible (cc)
         go k (inr (inl h)) = true≢false (sym (level s s (change j e) (strike k) refl h))
         go k (inr (inr h)) = true≢false (sym (level s s (strike k) (change j e) refl h))
 

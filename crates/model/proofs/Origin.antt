@@ -1,35 +1,23 @@
 -- Row number r of what is read is the row of what stands behind it: base row s with its changes, or the row of added entry i.
 -- Assumes nothing.
 use mathlib.Core.Path.{_≡_, refl, sym, ap, _∙_}
-use mathlib.Core.Logic.{_⊎_, inl, inr}
 use mathlib.Core.Bool.{Bool, true, false, cond}
-use mathlib.Core.List.{
-  List,
-  [],
-  _∷_,
-  _++_,
-  map,
-  List·Memᴰ as Mem,
-  List·Memᴰ·head as here,
-  List·Memᴰ·tail as next,
-  List·Memᴰ·not-nil as not-nil,
-  List·Memᴰ·append-cases as append-cases,
-}
-use Prim.Native.Nat.{ℕ, suc, _+_, _≤_, _<_}
-use native.Mathlib.Omega.{arith}
-use lib.ListN.{length, getD, replicate, length-replicate}
+use mathlib.Core.List.{List, [], _∷_, _++_, map, List·Memᴰ as Mem}
+use Prim.Native.Nat.{ℕ, suc, _+_, _<_}
+use lib.ListN.{length, getD, replicate}
 use lib.Dec.{eqb}
-use Rattle.order.proofs.Members.{map-mem}
+use Rattle.order.proofs.Tests.{impossible}
 use Rattle.order.proofs.Ascending.{At, top, deep, at-mem, at-getD, getD-at}
 use Rattle.order.proofs.Edited.{at-map}
 use Rattle.model.specs.declared.Refusal.{Refusal}
 use Rattle.model.specs.declared.Back.the-variants as backed
 use Rattle.model.specs.Row.{Row, Table}
-use Rattle.model.specs.Layer.{add, strike, change, Edit, at, Layer, addsAt, struck, changed}
+use Rattle.model.specs.Layer.{add, strike, change, Edit, at, Layer, position, addsAt, struck, changed}
 use Rattle.model.specs.Read.{unless, through, read}
-use Rattle.model.specs.Position.{Origin, base, added, addNumbers, originsFrom, origins, back}
+use Rattle.model.specs.Position.{Origin, base, added, addNumbers, origins, back}
 use Rattle.model.specs.Calls.{originAnswer}
-use Rattle.model.proofs.Column.{map-unless, through-same, through-map, through-over}
+use Rattle.model.proofs.Position.{entryNo, base-shown, add-at, origins-mem}
+use Rattle.model.proofs.Through.{map-unless, through-same, through-map, through-over}
 
 -- the row that an edit adds
 abbrev pub addedRow : Edit → Row
@@ -52,7 +40,8 @@ adds-rows T L s i (at p (add r) ∷ Z) sub = go (adds-rows T L s (suc i) Z (λ d
     row = ap addedRow (at-getD (at 0 (add [])) (sub (at p (add r)) i (top refl refl)))
 
     go : map (originRow T L) (map added (addNumbers s (suc i) Z)) ≡ addsAt s Z → (t : Bool)
-        → map (originRow T L) (map added (cond t (i ∷ addNumbers s (suc i) Z) (addNumbers s (suc i) Z))) ≡ cond t (r ∷ []) [] ++ addsAt s Z
+        → map (originRow T L) (map added (cond t (i ∷ addNumbers s (suc i) Z) (addNumbers s (suc i) Z)))
+        ≡ cond t (r ∷ []) [] ++ addsAt s Z
     go ih true = rw (row) (ap (λ (t : Table). r ∷ t) ih)
     go ih false = ih
 adds-rows T L s i (at p (strike k) ∷ Z) sub = adds-rows T L s (suc i) Z (λ d k n. sub d k (deep n))
@@ -68,50 +57,24 @@ unfolding origins
 read-origins T L =
     through-same (λ p. addsAt p L) (λ p. map (originRow T L) (map added (addNumbers p 0 L))) _ _ 0 T
     (λ p. sym (adds-rows T L p 0 L (λ d k n. n)))
-    (λ p r n. ap (λ (q : Row). unless (struck p L) (changed p L q)) (sym (at-getD [] n)) ∙ sym (map-unless (originRow T L) (struck p L) (base p)))
+    (λ p r n. ap (λ (q : Row). unless (struck p L) (changed p L q)) (sym (at-getD [] n))
+    ∙ sym (map-unless (originRow T L) (struck p L) (base p)))
     ∙ (sym (through-over (λ r. 0) (λ p. map (originRow T L) (map added (addNumbers p 0 L)))
     (λ p x. map (originRow T L) (unless (struck p L) (base p))) 0 T)
-    ∙ (ap (through (λ p. map (originRow T L) (map added (addNumbers p 0 L))) (λ p x. map (originRow T L) (unless (struck p L) (base p))) 0)
+    ∙ (ap (through (λ p. map (originRow T L) (map added (addNumbers p 0 L)))
+    (λ p x. map (originRow T L) (unless (struck p L) (base p))) 0)
     (sym (zeros T))
-    ∙ sym (through-map (originRow T L) (λ p. map added (addNumbers p 0 L)) (λ p x. unless (struck p L) (base p)) 0 (replicate (length T) 0))))
+    ∙ sym (through-map (originRow T L) (λ p. map added (addNumbers p 0 L)) (λ p x. unless (struck p L) (base p)) 0
+    (replicate (length T) 0))))
 
 -- what an origin is: a base row that is not struck, or an entry that adds
 abbrev pub Stands : ℕ → Layer → Origin → Type 0
 Stands n L (base s) = (s < n) × (struck s L ≡ false)
 Stands n L (added i) = (p : ℕ) × (r : Row) × At (at p (add r)) i 0 L
 
-number-mem : (L : Layer) (s i : ℕ) (Z : Layer) → ((e : Edit) (k : ℕ) → At e k i Z → At e k 0 L)
-    → (k : ℕ) → Mem k (addNumbers s i Z) → (p : ℕ) × (r : Row) × At (at p (add r)) k 0 L
-number-mem L s i [] sub k m = absurd (not-nil m)
-number-mem L s i (at p (add r) ∷ Z) sub k m = go (λ n. number-mem L s (suc i) Z (λ d l x. sub d l (deep x)) k n) (eqb s p) m
-  where
-    go : (Mem k (addNumbers s (suc i) Z) → (p : ℕ) × (r : Row) × At (at p (add r)) k 0 L) → (t : Bool)
-        → Mem k (cond t (i ∷ addNumbers s (suc i) Z) (addNumbers s (suc i) Z)) → (p : ℕ) × (r : Row) × At (at p (add r)) k 0 L
-    go ih true (here e) = (p, r, sub (at p (add r)) k (top refl e))
-    go ih true (next n) = ih n
-    go ih false n = ih n
-number-mem L s i (at p (strike l) ∷ Z) sub k m = number-mem L s (suc i) Z (λ d l x. sub d l (deep x)) k m
-number-mem L s i (at p (change j e) ∷ Z) sub k m = number-mem L s (suc i) Z (λ d l x. sub d l (deep x)) k m
-
-adding-stands : (n p : ℕ) (L : Layer) (o : Origin) → Mem o (map added (addNumbers p 0 L)) → Stands n L o
-adding-stands n p L o m =
-    let w = map-mem added (addNumbers p 0 L) o m in rw (w .2) (number-mem L p 0 L (λ d l x. x) (w .0) (w .1))
-
-stands-from : (n s : ℕ) (xs : List ℕ) (L : Layer) → s + length xs ≤ n → (o : Origin) → Mem o (originsFrom s xs L) → Stands n L o
-stands-from n s [] L h o m = adding-stands n s L o m
-stands-from n s (x ∷ xs) L h o m =
-    first (λ k. stands-from n (suc s) xs L (omega arith) o k) (append-cases (map added (addNumbers s 0 L)) m)
-  where
-    second : (Mem o (originsFrom (suc s) xs L) → Stands n L o) → (t : Bool) → struck s L ≡ t
-        → Mem o (unless t (base s) ++ originsFrom (suc s) xs L) → Stands n L o
-    second ih true e k = ih k
-    second ih false e (here f) = rw (f) (omega arith, e)
-    second ih false e (next k) = ih k
-
-    first : (Mem o (originsFrom (suc s) xs L) → Stands n L o)
-        → Mem o (map added (addNumbers s 0 L)) ⊎ Mem o (unless (struck s L) (base s) ++ originsFrom (suc s) xs L) → Stands n L o
-    first ih (inl k) = adding-stands n s L o k
-    first ih (inr k) = second ih (struck s L) refl k
+stands-of : (n : ℕ) (L : Layer) (o : Origin) → Mem o (origins n L) → Stands n L o
+stands-of n L (base s) m = base-shown n L s (origins-mem n L (base s) m)
+stands-of n L (added i) m = let w = add-at L i (origins-mem n L (added i) m) in (position (entryNo L i), w .0, w .1)
 
 -- back from a row number: what stands there, and that the row is its row
 pub record RowOrigin (T : Table) (L : Layer) (q : Row) (o : Origin) : Type 0 where
@@ -119,14 +82,10 @@ pub record RowOrigin (T : Table) (L : Layer) (q : Row) (o : Origin) : Type 0 whe
   pub row : q ≡ originRow T L o
 
 pub back-row : (T : Table) (L : Layer) (i : ℕ) (q : Row) → At q i 0 (read T L) → RowOrigin T L q (back (length T) L i)
-unfolding origins
 back-row T L i q n =
     let w = at-map (originRow T L) i (origins (length T) L) q (rw (read-origins T L) at n) in
     let o : w .0 ≡ back (length T) L i = sym (at-getD (base (length T)) (w .1)) in
-    rw (← o) (record {
-      stands = stands-from (length T) 0 (replicate (length T) 0) L (omega (arith, length-replicate {A = ℕ} (length T) 0)) (w .0) (at-mem (w .1));
-      row = w .2;
-    })
+    rw (← o) (record { stands = stands-of (length T) L (w .0) (at-mem (w .1)); row = w .2 })
 
 -- the entry behind an added row adds it
 pub added-at : (T : Table) (L : Layer) (q : Row) (i : ℕ) → RowOrigin T L q (added i) → (p : ℕ) × At (at p (add q)) i 0 L
@@ -143,12 +102,12 @@ base-at T L q s O = (getD T s [], getD-at T s [] (O .stands .0), O .stands .1, O
 -- what is answered of an origin says which it is
 pub origin-base : (o : Origin) (s : ℕ) → originAnswer o ≡ backed.Base s → o ≡ base s
 origin-base (base t) s e = ap base (cc)
-origin-base (added i) s e = absurd (let z : _≡_ {A = ℕ} 0 1 = cc in omega arith)
+origin-base (added i) s e = impossible (cc)
 
 pub origin-added : (o : Origin) (i : ℕ) → originAnswer o ≡ backed.Added i → o ≡ added i
-origin-added (base t) i e = absurd (let z : _≡_ {A = ℕ} 0 1 = cc in omega arith)
+origin-added (base t) i e = impossible (cc)
 origin-added (added k) i e = ap added (cc)
 
 pub origin-never : (o : Origin) (x : Refusal) → originAnswer o ≡ backed.Refused x → ⊥
-origin-never (base t) x e = let z : _≡_ {A = ℕ} 0 1 = cc in omega arith
-origin-never (added k) x e = let z : _≡_ {A = ℕ} 0 1 = cc in omega arith
+origin-never (base t) x e = impossible (cc)
+origin-never (added k) x e = impossible (cc)

@@ -16,11 +16,9 @@ use mathlib.Core.List.{
   List·Memᴰ·head as here,
   List·Memᴰ·tail as next,
   List·Memᴰ·not-nil as not-nil,
-  List·Memᴰ·append-cases as append-cases,
-  Memᴰ·append-left as in-left,
   Memᴰ·append-right as in-right,
 }
-use lib.ListN.{length, getD, take, drop, replicate, length-append, List·getD-eq-default}
+use lib.ListN.{length, getD, take, drop, replicate, length-replicate, length-append, List·getD-eq-default}
 use lib.Seq.{append-snoc, getD-append-seam, take-append-seam, split-at, length-take-le}
 use lib.IntN.{ℤ, pos, negsuc, natAbs, subℕ, _+ℤ_}
 use lib.Dec.{leb, ltb, eqb, leb·suc-suc}
@@ -39,8 +37,8 @@ use borrow.Author.Tests.{
   not-true,
 }
 use Rattle.order.specs.Lists.{one, count, leastBroken}
-use Rattle.order.proofs.Tests.{tests, and-l, and-r, and-of, one-le, lex-cases}
-use Rattle.order.proofs.Counts.{count-append, count-sum, count-same, count-zero, count-le}
+use Rattle.order.proofs.Tests.{tests, impossible, and-l, and-r, and-of, one-le, lex-cases}
+use Rattle.order.proofs.Counts.{count-append, count-le}
 use Rattle.order.proofs.Members.{mem-map, map-mem}
 use Rattle.order.proofs.Pairs.{AllPairs, Unbroken, unbroken}
 use Rattle.order.proofs.Ascending.{At, top, deep, getD-at, at-getD, mem-at, at-mem, at-length}
@@ -54,6 +52,7 @@ use Rattle.model.specs.Layer.{
   at,
   Layer,
   position,
+  onAdd,
   isAdd,
   isStrike,
   rowsAfter,
@@ -61,7 +60,7 @@ use Rattle.model.specs.Layer.{
   struck,
 }
 use Rattle.model.specs.Form.{sound, after, follows, inOrder}
-use Rattle.model.specs.Read.{unless, through}
+use Rattle.model.specs.Read.{unless}
 use Rattle.model.specs.Position.{
   addUpTo,
   strikeBefore,
@@ -76,6 +75,8 @@ use Rattle.model.specs.Position.{
   back,
 }
 use Rattle.model.specs.Move.{addBefore}
+use Rattle.model.proofs.Layer.{adds-same, adds-sum, adds-zero, strikes-same, strikes-sum, strikes-zero}
+use Rattle.model.proofs.Through.{unless-mem, mem-unless, Comes, through-mem, added-through, shown-through}
 
 -- What a layer in order gives: each edit is sound, and follows each earlier one.
 pub formed : (c n : ℕ) (L : Layer) → inOrder c n L ≡ true → Unbroken (sound c n) follows [] L
@@ -102,9 +103,7 @@ follows-strike p s k e h = ⊎-elim (λ l. l) (λ w. absurd (true≢false (sym (
 
 -- an add at s
 abbrev pub addAt : ℕ → Edit → Bool
-addAt s (at p (add r)) = eqb s p
-addAt s (at p (strike k)) = false
-addAt s (at p (change j e)) = false
+addAt s = onAdd (λ p r. eqb s p)
 
 -- up to s is before s or at s
 one-upto : (p s : ℕ) → one (ltb p s) + one (eqb s p) ≡ one (leb p s)
@@ -117,45 +116,20 @@ one-upto p s = go (ltb p s) (eqb s p) refl refl
     go false false f g = rw (lt-leb p s (omega tests))
 
 adds-upto : (s : ℕ) (L : Layer) → count (addBefore s) L + count (addAt s) L ≡ count (addUpTo s) L
-adds-upto s L = count-sum (addBefore s) (addAt s) (addUpTo s) L each
-  where
-    each : (e : Edit) → Mem e L → one (addBefore s e) + one (addAt s e) ≡ one (addUpTo s e)
-    each (at p (add r)) m = one-upto p s
-    each (at p (strike k)) m = refl
-    each (at p (change j e)) m = refl
+adds-upto s L = adds-sum L _ _ _ (λ p r m. one-upto p s)
 
 adds-before-next : (s : ℕ) (L : Layer) → count (addBefore (suc s)) L ≡ count (addUpTo s) L
-adds-before-next s L = count-same (addBefore (suc s)) (addUpTo s) L each
-  where
-    each : (e : Edit) → Mem e L → one (addBefore (suc s) e) ≡ one (addUpTo s e)
-    each (at p (add r)) m = ap one (leb·suc-suc p s)
-    each (at p (strike k)) m = refl
-    each (at p (change j e)) m = refl
+adds-before-next s L = adds-same L _ _ (λ p r m. ap one (leb·suc-suc p s))
 
 strikes-next : (s : ℕ) (L : Layer) → count (strikeBefore s) L + count (strikesRow s) L ≡ count (strikeBefore (suc s)) L
-strikes-next s L = count-sum (strikeBefore s) (strikesRow s) (strikeBefore (suc s)) L each
-  where
-    each : (e : Edit) → Mem e L → one (strikeBefore s e) + one (strikesRow s e) ≡ one (strikeBefore (suc s) e)
-    each (at p (add r)) m = refl
-    each (at p (strike k)) m = one-upto p s ∙ sym (ap one (leb·suc-suc p s))
-    each (at p (change j e)) m = refl
+strikes-next s L = strikes-sum L _ _ _ (λ p k m. one-upto p s ∙ sym (ap one (leb·suc-suc p s)))
 
 -- nothing stands before position 0
 adds-first : (L : Layer) → count (addBefore 0) L ≡ 0
-adds-first L = count-zero (addBefore 0) L each
-  where
-    each : (e : Edit) → Mem e L → one (addBefore 0 e) ≡ 0
-    each (at p (add r)) m = ap one (le-ltb p 0 (omega arith))
-    each (at p (strike k)) m = refl
-    each (at p (change j e)) m = refl
+adds-first L = adds-zero L _ (λ p r m. ap one (le-ltb p 0 (omega arith)))
 
 strikes-first : (L : Layer) → count (strikeBefore 0) L ≡ 0
-strikes-first L = count-zero (strikeBefore 0) L each
-  where
-    each : (e : Edit) → Mem e L → one (strikeBefore 0 e) ≡ 0
-    each (at p (add r)) m = refl
-    each (at p (strike k)) m = ap one (le-ltb p 0 (omega arith))
-    each (at p (change j e)) m = refl
+strikes-first L = strikes-zero L _ (λ p k m. ap one (le-ltb p 0 (omega arith)))
 
 -- at most one strike stands at a position
 strikes-once : (s : ℕ) (L : Layer) → AllPairs follows L → count (strikesRow s) L ≡ one (struck s L)
@@ -166,37 +140,15 @@ strikes-once s (at q (strike k) ∷ L) p = go (strikes-once s L (p .1)) (eqb s q
   where
     go : count (strikesRow s) L ≡ one (struck s L) → (t : Bool) → eqb s q ≡ t
         → one t + count (strikesRow s) L ≡ one (t || struck s L)
-    go ih true f = rw (count-zero (strikesRow s) L each)
-      where
-        each : (e : Edit) → Mem e L → one (strikesRow s e) ≡ 0
-        each (at w (add r)) m = refl
-        each (at w (strike l)) m = ap one (ne-eqb s w
-            (λ g. omega (tests, follows-strike q w k (strike l) (p .0 (at w (strike l)) m))))
-        each (at w (change j e)) m = refl
+    go ih true f =
+        rw (strikes-zero L (λ w l. eqb s w) (λ w l m. ap one (ne-eqb s w
+        (λ g. omega (tests, follows-strike q w k (strike l) (p .0 (at w (strike l)) m))))))
     go ih false f = omega arith
 
 -- strikes before s are at most s
 pub strikes-few : (s : ℕ) (L : Layer) → AllPairs follows L → count (strikeBefore s) L ≤ s
 strikes-few zero L p = omega (arith, strikes-first L)
 strikes-few (suc s) L p = omega (arith, strikes-few s L p, strikes-next s L, strikes-once s L p, one-le (struck s L))
-
--- A layer in order over n rows: every add stands at n or before, every strike before n.
-module _ (c n : ℕ) (L : Layer) (U : Unbroken (sound c n) follows [] L) where
-  pub adds-within : count (addUpTo n) L ≡ count isAdd L
-  adds-within = count-same (addUpTo n) isAdd L each
-    where
-      each : (e : Edit) → Mem e L → one (addUpTo n e) ≡ one (isAdd e)
-      each (at p (add r)) m = ap one (and-l (leb p n) (eqb (length r) c) (U .each (at p (add r)) m))
-      each (at p (strike k)) m = refl
-      each (at p (change j e)) m = refl
-
-  pub strikes-within : count (strikeBefore n) L ≡ count isStrike L
-  strikes-within = count-same (strikeBefore n) isStrike L each
-    where
-      each : (e : Edit) → Mem e L → one (strikeBefore n e) ≡ one (isStrike e)
-      each (at p (add r)) m = refl
-      each (at p (strike k)) m = ap one (U .each (at p (strike k)) m)
-      each (at p (change j e)) m = refl
 
 -- the row number of the added entry number i: its position, and the adds before it in the layer, less the strikes before it
 abbrev pub rowOfEntry : Layer → ℕ → ℕ
@@ -236,50 +188,33 @@ numbered-getD L k (suc r) (o ∷ os) d N h = numbered-getD L (suc k) r os d (N .
 
 -- an add at s that stands between E and M
 module _ (s : ℕ) (row : Row) (E M : Layer) (P : AllPairs follows (E ++ (at s (add row) ∷ M))) where
+  -- what stands before it lies at s or before, a strike before s; what stands after it lies at s or after
+  from-first : (p : ℕ) (d : Deed) → Mem (at p d) E → follows (at p d) (at s (add row)) ≡ true
+  from-first p d m = pairs-at E (at s (add row)) M P .0 (at p d) m
+
+  to-later : (p : ℕ) (d : Deed) → Mem (at p d) M → s ≤ p
+  to-later p d m = follows-pos s p (add row) d (pairs-at E (at s (add row)) M P .1 (at p d) m)
+
   earlier-adds : count isAdd E ≡ count (addBefore s) (E ++ (at s (add row) ∷ M)) + count (addAt s) E
   earlier-adds =
       omega (
         arith,
         count-append (addBefore s) E (at s (add row) ∷ M),
-        count-sum (addBefore s) (addAt s) isAdd E before,
-        count-zero (addBefore s) M later,
+        adds-sum E (λ p r. ltb p s) (λ p r. eqb s p) (λ p r. true) (λ p r m.
+            one-upto p s ∙ ap one (le-leb p s (follows-pos p s (add r) (add row) (from-first p (add r) m)))),
+        adds-zero M (λ p r. ltb p s) (λ p r m. ap one (le-ltb p s (to-later p (add r) m))),
         ap one (le-ltb s s (omega arith)),
       )
-    where
-      before : (e : Edit) → Mem e E → one (addBefore s e) + one (addAt s e) ≡ one (isAdd e)
-      before (at p (add r)) m =
-          one-upto p s ∙ ap one (le-leb p s (follows-pos p s (add r) (add row)
-          (pairs-at E (at s (add row)) M P .0 (at p (add r)) m)))
-      before (at p (strike k)) m = refl
-      before (at p (change j e)) m = refl
-
-      later : (e : Edit) → Mem e M → one (addBefore s e) ≡ 0
-      later (at p (add r)) m =
-          ap one (le-ltb p s (follows-pos s p (add row) (add r) (pairs-at E (at s (add row)) M P .1 (at p (add r)) m)))
-      later (at p (strike k)) m = refl
-      later (at p (change j e)) m = refl
 
   earlier-strikes : count isStrike E ≡ count (strikeBefore s) (E ++ (at s (add row) ∷ M))
   earlier-strikes =
       omega (
         arith,
         count-append (strikeBefore s) E (at s (add row) ∷ M),
-        count-same (strikeBefore s) isStrike E before,
-        count-zero (strikeBefore s) M later,
+        strikes-same E (λ p k. ltb p s) (λ p k. true) (λ p k m.
+            ap one (lt-ltb p s (follows-strike p s k (add row) (from-first p (strike k) m)))),
+        strikes-zero M (λ p k. ltb p s) (λ p k m. ap one (le-ltb p s (to-later p (strike k) m))),
       )
-    where
-      before : (e : Edit) → Mem e E → one (strikeBefore s e) ≡ one (isStrike e)
-      before (at p (add r)) m = refl
-      before (at p (strike k)) m =
-          ap one (lt-ltb p s (follows-strike p s k (add row) (pairs-at E (at s (add row)) M P .0 (at p (strike k)) m)))
-      before (at p (change j e)) m = refl
-
-      later : (e : Edit) → Mem e M → one (strikeBefore s e) ≡ 0
-      later (at p (add r)) m = refl
-      later (at p (strike k)) m =
-          ap one (le-ltb p s (follows-pos s p (add row) (strike k)
-          (pairs-at E (at s (add row)) M P .1 (at p (strike k)) m)))
-      later (at p (change j e)) m = refl
 
   add-number : rowOfEntry (E ++ (at s (add row) ∷ M)) (length E)
       ≡ rowsBefore (E ++ (at s (add row) ∷ M)) s + count (addAt s) E
@@ -413,6 +348,16 @@ module _ (L : Layer) (P : AllPairs follows L) where
   origins-length n =
       omega (arith, all-length n 0, adds-first L, strikes-first L, ap (rowOf L) (zero-add n))
 
+  -- where every add stands at n or before, and every strike before n, these are n + adds - strikes
+  module _ (n : ℕ) (adds : (p : ℕ) (r : Row) → Mem (at p (add r)) L → p ≤ n)
+      (strikes : (p k : ℕ) → Mem (at p (strike k)) L → p < n) where
+    pub origins-count : (length (origins n L) ≡ rowsAfter n L) × (count isStrike L ≤ n)
+    unfolding rowOf
+    origins-count =
+        let a = adds-same L (λ p r. leb p n) (λ p r. true) (λ p r m. ap one (le-leb p n (adds p r m))) in
+        let b = strikes-same L (λ p k. ltb p n) (λ p k. true) (λ p k m. ap one (lt-ltb p n (strikes p k m))) in
+        (omega (arith, origins-length n, a, b), omega (arith, strikes-few n L P, b))
+
   -- the origin that stands at r has the number r
   pub number-back : (n r : ℕ) → r < length (origins n L) → number L (back n L r) ≡ r
   unfolding origins
@@ -433,43 +378,13 @@ abbrev pub isShown : ℕ → Layer → Origin → Bool
 isShown n L (base s) = ltb s n && not (struck s L)
 isShown n L (added i) = isAdd (entryNo L i)
 
-module _ {A B : Type 0} (f : ℕ → List B) (g : ℕ → A → List B) (o : B) where
-  -- o is added at a position from s to n, or shown by a row from s to n - 1
-  abbrev Comes : ℕ → ℕ → A → Type 0
-  Comes s n x = ((p : ℕ) × (s ≤ p) × (p ≤ n) × Mem o (f p)) ⊎ ((p : ℕ) × (s ≤ p) × (p < n) × Mem o (g p x))
+module _ (n : ℕ) (L : Layer) (s : ℕ) where
+  pub base-shown : isShown n L (base s) ≡ true → (s < n) × (struck s L ≡ false)
+  base-shown h =
+      (ltb-true s n (and-l (ltb s n) (not (struck s L)) h), not-true (struck s L) (and-r (ltb s n) (not (struck s L)) h))
 
-  through-mem : (x : A) (k s : ℕ) → Mem o (through f g s (replicate k x)) → Comes s (s + k) x
-  through-mem x zero s m = inl (s, omega arith, omega arith, m)
-  through-mem x (suc k) s m =
-      ⊎-elim (λ m₁. inl (s, omega arith, omega arith, m₁))
-      (λ m₁. ⊎-elim (λ m₂. inr (s, omega arith, omega arith, m₂)) (λ m₂. later (through-mem x k (suc s) m₂))
-      (append-cases (g s x) m₁))
-      (append-cases (f s) m)
-    where
-      later : Comes (suc s) (suc s + k) x → Comes s (s + suc k) x
-      later (inl w) = inl (w .0, omega (arith, w .1), omega (arith, w .2), w .3)
-      later (inr w) = inr (w .0, omega (arith, w .1), omega (arith, w .2), w .3)
-
-  mem-through : (x : A) (k s : ℕ) → Comes s (s + k) x → Mem o (through f g s (replicate k x))
-  mem-through x zero s (inl w) =
-      let e : w .0 ≡ s = omega (arith, w .1, w .2) in
-      rw e at (w .3)
-  mem-through x zero s (inr w) = absurd (omega (arith, w .1, w .2))
-  mem-through x (suc k) s w = go w (λ v. in-right (f s) (in-right (g s x) (mem-through x k (suc s) v)))
-    where
-      go : Comes s (s + suc k) x → (Comes (suc s) (suc s + k) x → Mem o (through f g s (replicate (suc k) x)))
-          → Mem o (through f g s (replicate (suc k) x))
-      go (inl v) rest = at-s (eqb (v .0) s) refl
-        where
-          at-s : (t : Bool) → eqb (v .0) s ≡ t → Mem o (through f g s (replicate (suc k) x))
-          at-s true e = in-left (g s x ++ through f g (suc s) (replicate k x)) (rw (eqb-true (v .0) s e) at (v .3))
-          at-s false e = rest (inl (v .0, omega (tests, v .1), omega (arith, v .2), v .3))
-      go (inr v) rest = at-s (eqb (v .0) s) refl
-        where
-          at-s : (t : Bool) → eqb (v .0) s ≡ t → Mem o (through f g s (replicate (suc k) x))
-          at-s true e = in-right (f s) (in-left (through f g (suc s) (replicate k x))
-              (rw (eqb-true (v .0) s e) at (v .3)))
-          at-s false e = rest (inr (v .0, omega (tests, v .1), omega (arith, v .2), v .3))
+  shown-base : s < n → struck s L ≡ false → isShown n L (base s) ≡ true
+  shown-base h u = and-of (ltb s n) (not (struck s L)) (lt-ltb s n h) (ap not u)
 
 -- the numbers of the adds at s are the places of such entries
 adds-mem : (s i j : ℕ) (M : Layer) → Mem i (addNumbers s j M) → (row : Row) × At (at s (add row)) i j M
@@ -514,16 +429,10 @@ add-in [] i h = absurd (true≢false (sym h))
 add-in (x ∷ L) zero h = omega arith
 add-in (x ∷ L) (suc i) h = omega (arith, add-in L i h)
 
-add-at : (L : Layer) (i : ℕ) → isAdd (entryNo L i) ≡ true → (row : Row) × At (at (position (entryNo L i)) (add row)) i 0 L
+pub add-at : (L : Layer) (i : ℕ) → isAdd (entryNo L i) ≡ true → (row : Row) × At (at (position (entryNo L i)) (add row)) i 0 L
 add-at L i h =
     let w = add-is (entryNo L i) h in
     (w .0, rw (w .1) at (getD-at L i (at 0 (strike 0)) (add-in L i h)))
-
--- a base row's origin is listed where the row is not struck
-unless-mem : (t : Bool) (o u : Origin) → Mem o (unless t u) → (t ≡ false) × (o ≡ u)
-unless-mem true o u m = absurd (not-nil m)
-unless-mem false o u (here e) = (refl, e)
-unless-mem false o u (next m) = absurd (not-nil m)
 
 module _ (n : ℕ) (L : Layer) where
   abbrev adds : ℕ → List Origin
@@ -532,34 +441,32 @@ module _ (n : ℕ) (L : Layer) where
   abbrev rows : ℕ → ℕ → List Origin
   rows p x = unless (struck p L) (base p)
 
-  origins-mem : (o : Origin) → Mem o (origins n L) → isShown n L o ≡ true
+  pub origins-mem : (o : Origin) → Mem o (origins n L) → isShown n L o ≡ true
   unfolding origins
-  origins-mem o m = ⊎-elim by-add by-row (through-mem adds rows o 0 n 0 m)
+  origins-mem o m = go (through-mem adds rows o 0 (replicate n 0) m)
     where
-      by-add : (p : ℕ) × (0 ≤ p) × (p ≤ 0 + n) × Mem o (adds p) → isShown n L o ≡ true
-      by-add (p, a, b, k) =
+      go : Comes adds rows o 0 (replicate n 0) → isShown n L o ≡ true
+      go (inl (p, a, b, k)) =
           let w = map-mem added (addNumbers p 0 L) o k in
           let v = adds-mem p (w .0) 0 L (w .1) in
           ap (isShown n L) (w .2) ∙ ap isAdd (at-getD (at 0 (strike 0)) (v .1))
-
-      by-row : (p : ℕ) × (0 ≤ p) × (p < 0 + n) × Mem o (rows p 0) → isShown n L o ≡ true
-      by-row (p, a, b, k) =
-          let w = unless-mem (struck p L) o (base p) k in
-          ap (isShown n L) (w .1) ∙ and-of (ltb p n) (not (struck p L)) (lt-ltb p n (omega arith)) (ap not (w .0))
+      go (inr (p, x, k, l)) =
+          let w = unless-mem (struck p L) o (base p) l in
+          ap (isShown n L) (w .1) ∙ shown-base n L p (omega (arith, at-length k, length-replicate {A = ℕ} n 0)) (w .0)
 
   mem-origins : (c : ℕ) → Unbroken (sound c n) follows [] L → (o : Origin) → isShown n L o ≡ true → Mem o (origins n L)
   unfolding origins
   mem-origins c U (base s) h =
-      let e : struck s L ≡ false = not-true (struck s L) (and-r (ltb s n) (not (struck s L)) h) in
-      let b : s < 0 + n = omega (arith, ltb-true s n (and-l (ltb s n) (not (struck s L)) h)) in
-      mem-through adds rows (base s) 0 n 0 (inr (s, omega arith, b, rw e (here refl)))
+      let w = base-shown n L s h in
+      let b : s < length {A = ℕ} (replicate n 0) = omega (arith, w .0, length-replicate {A = ℕ} n 0) in
+      shown-through adds rows (base s) 0 (replicate n 0) s (getD (replicate n 0) s 0) (getD-at (replicate n 0) s 0 b)
+      (mem-unless (struck s L) (base s) (w .1))
   mem-origins c U (added i) h =
       let w = add-at L i h in
       let p : ℕ = position (entryNo L i) in
-      let b : p ≤ n = leb-true p n (and-l (leb p n) (eqb (length (w .0)) c)
-      (U .each (at p (add (w .0))) (at-mem (w .1)))) in
-      mem-through adds rows (added i) 0 n 0
-      (inl (p, omega arith, omega arith, mem-map added (addNumbers p 0 L) i (mem-adds p i 0 (w .0) L (w .1))))
+      let b : p ≤ n = leb-true p n (and-l (leb p n) (eqb (length (w .0)) c) (U .each (at p (add (w .0))) (at-mem (w .1)))) in
+      added-through adds rows (added i) 0 (replicate n 0) p (omega arith) (omega (arith, length-replicate {A = ℕ} n 0))
+      (mem-map added (addNumbers p 0 L) i (mem-adds p i 0 (w .0) L (w .1)))
 
 -- An entry that adds at p has a number from the rows before p on, and below that of row p.
 abbrev Stands : ℕ → Layer → ℕ → Type 0
@@ -664,11 +571,9 @@ module _ (c n : ℕ) (L : Layer) (ok : inOrder c n L ≡ true) where
 
   -- the rows shown are n + adds - strikes, and the strikes are at most n
   pub rows-counted : (length (origins n L) ≡ rowsAfter n L) × (count isStrike L ≤ n)
-  unfolding rowOf
-  rows-counted = (
-    omega (arith, origins-length L (U .pairs) n, adds-within c n L U, strikes-within c n L U),
-    omega (arith, strikes-few n L (U .pairs), strikes-within c n L U),
-  )
+  rows-counted =
+      origins-count L (U .pairs) n (λ p r m. leb-true p n (and-l (leb p n) (eqb (length r) c) (U .each (at p (add r)) m)))
+      (λ p k m. ltb-true p n (U .each (at p (strike k)) m))
 
   -- row number = s + shift, in integers: the row is never negative
   pub row-never-negative : (s : ℕ) → pos (rowOf L s) ≡ pos s +ℤ shift L s
@@ -698,17 +603,14 @@ module _ (c n : ℕ) (L : Layer) (ok : inOrder c n L ≡ true) where
 
   -- a base row that is not struck, to its row number and back
   pub base-row-back : (s : ℕ) → s < n → struck s L ≡ false → (rowOf L s < rowsAfter n L) × (back n L (rowOf L s) ≡ base s)
-  base-row-back s h e = number-shown (base s) (and-of (ltb s n) (not (struck s L)) (lt-ltb s n h) (ap not e))
+  base-row-back s h e = number-shown (base s) (shown-base n L s h e)
 
   pub back-base-row : (r s : ℕ) → r < rowsAfter n L → back n L r ≡ base s
       → (s < n) × (struck s L ≡ false) × (rowOf L s ≡ r)
   back-base-row r s h e =
       let w = back-number r h in
-      let t : ltb s n && not (struck s L) ≡ true = ap (isShown n L) (sym e) ∙ w .0 in (
-        ltb-true s n (and-l (ltb s n) (not (struck s L)) t),
-        not-true (struck s L) (and-r (ltb s n) (not (struck s L)) t),
-        ap (number L) (sym e) ∙ w .1,
-      )
+      let z = base-shown n L s (ap (isShown n L) (sym e) ∙ w .0) in
+      (z .0, z .1, ap (number L) (sym e) ∙ w .1)
 
   -- an entry that adds, to its row number and back
   pub added-back : (i : ℕ) → isAdd (entryNo L i) ≡ true
@@ -727,61 +629,52 @@ module _ (c n : ℕ) (L : Layer) (ok : inOrder c n L ≡ true) where
           let a : isAdd (entryNo L i) ≡ true = ap (isShown n L) (sym e) ∙ w .0 in
           (b, add-in L i a, a, ap (number L) (sym e) ∙ w .1)
       go false f =
-          absurd
-          (let g : back n L r ≡ base n =
+          let g : back n L r ≡ base n =
           List·getD-eq-default (origins n L) (base n) (omega (arith, ltb-false r (rowsAfter n L) f, rows-counted .0)) in
-          let z : _≡_ {A = ℕ} 0 1 = cc in
-          omega arith)
+          impossible (cc)
 
   -- the rows below the number of position s are those that stand before s
+  base-split : (s t : ℕ) → struck t L ≡ false → (u : Bool) → ltb t s ≡ u → u ≡ ltb (rowOf L t) (rowOf L s)
+  base-split s t h true e = sym (lt-ltb (rowOf L t) (rowOf L s) (row-passed L (U .pairs) t s (ltb-true t s e) h))
+  base-split s t h false e = sym (le-ltb (rowOf L t) (rowOf L s) (rows-rise L (U .pairs) s t (ltb-false t s e)))
+
+  added-split : (s i p : ℕ) → Stands p L i → (u : Bool) → leb p s ≡ u → u ≡ ltb (rowOfEntry L i) (rowOf L s)
+  added-split s i p w true e =
+      sym (lt-ltb (rowOfEntry L i) (rowOf L s) (omega (arith, w .1, rows-rise L (U .pairs) p s (leb-true p s e))))
+  added-split s i p w false e =
+      sym (le-ltb (rowOfEntry L i) (rowOf L s) (omega (arith, w .0, rows-up L (U .pairs) s p (leb-false p s e))))
+
   origin-split : (s : ℕ) (o : Origin) → isShown n L o ≡ true → standsBefore L s o ≡ ltb (number L o) (rowOf L s)
-  origin-split s (base t) h = go (ltb t s) refl
-    where
-      go : (u : Bool) → ltb t s ≡ u → u ≡ ltb (rowOf L t) (rowOf L s)
-      go true e =
-          sym (lt-ltb (rowOf L t) (rowOf L s) (row-passed L (U .pairs) t s (ltb-true t s e)
-          (not-true (struck t L) (and-r (ltb t n) (not (struck t L)) h))))
-      go false e = sym (le-ltb (rowOf L t) (rowOf L s) (rows-rise L (U .pairs) s t (ltb-false t s e)))
-  origin-split s (added i) h = go (leb (position (entryNo L i)) s) refl
-    where
-      go : (u : Bool) → leb (position (entryNo L i)) s ≡ u → u ≡ ltb (rowOfEntry L i) (rowOf L s)
-      go true e =
-          sym (lt-ltb (rowOfEntry L i) (rowOf L s) (omega (
-            arith,
-            entry-stands L (U .pairs) i h .1,
-            rows-rise L (U .pairs) (position (entryNo L i)) s (leb-true (position (entryNo L i)) s e),
-          )))
-      go false e =
-          sym (le-ltb (rowOfEntry L i) (rowOf L s) (omega (
-            arith,
-            entry-stands L (U .pairs) i h .0,
-            rows-up L (U .pairs) s (position (entryNo L i)) (leb-false (position (entryNo L i)) s e),
-          )))
+  origin-split s (base t) h = base-split s t ((base-shown n L t h) .1) (ltb t s) refl
+  origin-split s (added i) h =
+      added-split s i (position (entryNo L i)) (entry-stands L (U .pairs) i h) (leb (position (entryNo L i)) s) refl
 
   pub row-splits : (s r : ℕ) → r < rowsAfter n L → standsBefore L s (back n L r) ≡ ltb r (rowOf L s)
   row-splits s r h =
       let w = back-number r h in
       origin-split s (back n L r) (w .0) ∙ ap (λ (k : ℕ). ltb k (rowOf L s)) (w .1)
 
-  -- a struck row's number is that of the next shown row, or the row count if none follows: all below it stands before s, all from it on after s
+  -- a shown row that does not stand before a struck one stands after it
+  beyond : (s : ℕ) (o : Origin) → struck s L ≡ true → isShown n L o ≡ true → standsBefore L s o ≡ false
+      → standsAfter L s o ≡ true
+  beyond s (base t) e w b = go (eqb s t) refl
+    where
+      go : (u : Bool) → eqb s t ≡ u → ltb s t ≡ true
+      go true g = absurd (true≢false (sym e ∙ (ap (λ (k : ℕ). struck k L) (eqb-true s t g) ∙ (base-shown n L t w) .1)))
+      go false g = omega tests
+  beyond s (added i) e w b = omega tests
+
+  -- a struck row's number is that of the next shown row, or the row count if none follows: all below it stands before
+  -- s, all from it on after s
   pub struck-row-next : (s : ℕ) → s < n → struck s L ≡ true
       → (rowOf L s ≤ rowsAfter n L)
       × ((r : ℕ) → r < rowOf L s → standsBefore L s (back n L r) ≡ true)
       × ((r : ℕ) → rowOf L s ≤ r → r < rowsAfter n L → standsAfter L s (back n L r) ≡ true)
-  struck-row-next s h e = (most, λ r k. row-splits s r (omega (arith, most)) ∙ lt-ltb r (rowOf L s) k, last)
+  struck-row-next s h e = (
+    most,
+    λ r k. row-splits s r (omega (arith, most)) ∙ lt-ltb r (rowOf L s) k,
+    λ r k m. beyond s (back n L r) e (back-number r m .0) (row-splits s r m ∙ le-ltb r (rowOf L s) k),
+  )
     where
       most : rowOf L s ≤ rowsAfter n L
       most = omega (arith, rows-rise L (U .pairs) s n (omega arith), origins-length L (U .pairs) n, rows-counted .0)
-
-      beyond : (o : Origin) → isShown n L o ≡ true → standsBefore L s o ≡ false → standsAfter L s o ≡ true
-      beyond (base t) w b = go (eqb s t) refl
-        where
-          go : (u : Bool) → eqb s t ≡ u → ltb s t ≡ true
-          go true g =
-              absurd (true≢false (sym e ∙ ap (λ (k : ℕ). struck k L) (eqb-true s t g)
-              ∙ not-true (struck t L) (and-r (ltb t n) (not (struck t L)) w)))
-          go false g = omega tests
-      beyond (added i) w b = omega tests
-
-      last : (r : ℕ) → rowOf L s ≤ r → r < rowsAfter n L → standsAfter L s (back n L r) ≡ true
-      last r k m = beyond (back n L r) (back-number r m .0) (row-splits s r m ∙ le-ltb r (rowOf L s) k)

@@ -3,17 +3,16 @@
 use Prim.Native.Nat.{ℕ, zero, suc, _+_, _*_, _-_, _≤_, _<_}
 use native.Mathlib.Nat.{zero-add, add-zero, add-assoc, zero-mul, suc-mul, mul-le-mul, mul-le-mul-right, sub-zero, suc-add}
 use native.Mathlib.Omega.{arith}
-use mathlib.Core.Path.{_≡_, refl, sym, ap, _∙_}
+use mathlib.Core.Path.{_≡_, refl, ap, _∙_}
 use mathlib.Core.Bool.{Bool, true, _&&_}
 use mathlib.Core.List.{List, [], _∷_, _++_, map}
-use lib.ListN.{length, getD, take, drop, length-drop, length-append, List·getD-append}
+use lib.ListN.{length, getD, drop, length-drop, List·getD-append}
 use lib.Seq.{getD-take, getD-drop, getD-append-add, drop-append-le, drop-append-add, take-append-le}
 use lib.Dec.{leb}
 use borrow.Author.Tests.{leb-true}
 use Rattle.order.proofs.Tests.{and-l, and-r}
 use Rattle.order.proofs.Pairs.{broken-le}
 use Rattle.model.specs.declared.Entry.{Entry}
-use Rattle.model.specs.Layer.{Edit, Layer}
 use Rattle.model.specs.Raw.{Held, none, entryAt, entriesAt, entriesOf, editOf, layerOf}
 use Rattle.model.specs.Form.{zeros, sound, follows, formPlace, argsOk}
 
@@ -24,7 +23,7 @@ value-at c from j xs h = rw (getD-take, getD-drop)
 -- entry i of those from `at` on stands i times c + 2 further
 pub entry-at : (c k from i : ℕ) (xs : List ℕ) → i < k → getD (entriesAt c k from xs) i none ≡ entryAt c (from + i * (c + 2)) xs
 unfolding entriesAt
-entry-at c zero from i xs h = absurd (let z : _≡_ {A = ℕ} 0 1 = omega arith in omega arith)
+entry-at c zero from i xs h = absurd (omega arith)
 entry-at c (suc k) from zero xs h = rw (zero-mul, add-zero)
 entry-at c (suc k) from (suc i) xs h =
     entry-at c k (from + (c + 2)) i xs (omega arith) ∙ ap (λ (n : ℕ). entryAt c n xs) (omega (arith, suc-mul i (c + 2)))
@@ -33,7 +32,8 @@ entry-at c (suc k) from (suc i) xs h =
 pub within : (i m w : ℕ) → i < m → i * w + w ≤ m * w
 within i m w h = omega (arith, suc-mul i w, mul-le-mul-right {m = suc i} w h)
 
--- A loop over the entries is from entry i, which stands from `at`: the entries from i on are `entriesAt c (m - i) from xs`, and there is room for them.
+-- A loop over the entries is from entry i, which stands from `at`: the entries from i on are `entriesAt c (m - i)
+-- from xs`, and there is room for them.
 
 pub start : (c m len : ℕ) → m * (c + 2) ≤ len → 0 + (m - 0) * (c + 2) ≤ len
 start c m len r = rw (zero-add, sub-zero) r
@@ -48,7 +48,8 @@ next c m i from len h r =
     let e : m - i ≡ suc (m - (i + 1)) = omega arith in
     omega (arith, rw (e, suc-mul) at r)
 
-pub rest-step : (c m i from : ℕ) (xs : List ℕ) → i < m → entriesAt c (m - i) from xs ≡ entryAt c from xs ∷ entriesAt c (m - (i + 1)) (from + (c + 2)) xs
+pub rest-step : (c m i from : ℕ) (xs : List ℕ) → i < m
+    → entriesAt c (m - i) from xs ≡ entryAt c from xs ∷ entriesAt c (m - (i + 1)) (from + (c + 2)) xs
 unfolding entriesAt
 rest-step c m i from xs h =
     let e : m - i ≡ suc (m - (i + 1)) = omega arith in
@@ -67,19 +68,28 @@ entries-length c (suc k) from xs = ap suc (entries-length c k (from + (c + 2)) x
 
 -- The entries of parts of a layer.
 
-pub entries-add : (c a b from : ℕ) (xs : List ℕ) → entriesAt c (a + b) from xs ≡ entriesAt c a from xs ++ entriesAt c b (from + a * (c + 2)) xs
+pub entries-add : (c a b from : ℕ) (xs : List ℕ)
+    → entriesAt c (a + b) from xs ≡ entriesAt c a from xs ++ entriesAt c b (from + a * (c + 2)) xs
 unfolding entriesAt
 entries-add c zero b from xs = rw (zero-add, zero-mul, add-zero)
 entries-add c (suc a) b from xs =
     let e : from + (c + 2) + a * (c + 2) ≡ from + suc a * (c + 2) = omega (arith, suc-mul a (c + 2)) in
-    rw suc-add (ap (λ (l : List Entry). entryAt c from xs ∷ l) (entries-add c a b (from + (c + 2)) xs ∙ ap (λ (n : ℕ). entriesAt c a (from + (c + 2)) xs ++ entriesAt c b n xs) e))
+    rw suc-add (ap (λ (l : List Entry). entryAt c from xs ∷ l)
+    (entries-add c a b (from + (c + 2)) xs ∙ ap (λ (n : ℕ). entriesAt c a (from + (c + 2)) xs ++ entriesAt c b n xs) e))
 
 -- an entry within the first of two lists
 pub entry-in : (c from : ℕ) (ys zs : List ℕ) → from + (c + 2) ≤ length ys → entryAt c from (ys ++ zs) ≡ entryAt c from ys
 entry-in c from ys zs h =
-    rw (List·getD-append ys zs 0 from (omega arith), List·getD-append ys zs 0 (from + 1) (omega arith), drop-append-le (from + 2) ys zs (omega arith), take-append-le c (drop (from + 2) ys) zs (omega (arith, length-drop (from + 2) ys)))
+    rw (
+      List·getD-append ys zs 0 from (omega arith),
+      List·getD-append ys zs 0 (from + 1) (omega arith),
+      drop-append-le
+          (from + 2) ys zs (omega arith),
+      take-append-le c (drop (from + 2) ys) zs (omega (arith, length-drop (from + 2) ys)),
+    )
 
-pub entries-in : (c k from : ℕ) (ys zs : List ℕ) → from + k * (c + 2) ≤ length ys → entriesAt c k from (ys ++ zs) ≡ entriesAt c k from ys
+pub entries-in : (c k from : ℕ) (ys zs : List ℕ) → from + k * (c + 2) ≤ length ys
+    → entriesAt c k from (ys ++ zs) ≡ entriesAt c k from ys
 unfolding entriesAt
 entries-in c zero from ys zs h = refl
 entries-in c (suc k) from ys zs h =
@@ -89,7 +99,14 @@ entries-in c (suc k) from ys zs h =
 -- an entry past the first of two lists
 pub entry-past : (c from : ℕ) (ys zs : List ℕ) → entryAt c (length ys + from) (ys ++ zs) ≡ entryAt c from zs
 entry-past c from ys zs =
-    rw (add-assoc (length ys) from 1, add-assoc (length ys) from 2, getD-append-add ys zs from 0, getD-append-add ys zs (from + 1) 0, drop-append-add ys zs (from + 2))
+    rw (
+      add-assoc (length ys) from 1,
+      add-assoc (length ys) from 2,
+      getD-append-add ys zs from 0,
+      getD-append-add ys zs
+          (from + 1) 0,
+      drop-append-add ys zs (from + 2),
+    )
 
 pub entries-past : (c k from : ℕ) (ys zs : List ℕ) → entriesAt c k (length ys + from) (ys ++ zs) ≡ entriesAt c k from zs
 unfolding entriesAt
@@ -100,7 +117,8 @@ entries-past c (suc k) from ys zs =
 -- The same entries as edits.
 
 pub edits-step : (c m i from : ℕ) (xs : List ℕ) → i < m
-    → map editOf (entriesAt c (m - i) from xs) ≡ editOf (entryAt c from xs) ∷ map editOf (entriesAt c (m - (i + 1)) (from + (c + 2)) xs)
+    → map editOf (entriesAt c (m - i) from xs)
+    ≡ editOf (entryAt c from xs) ∷ map editOf (entriesAt c (m - (i + 1)) (from + (c + 2)) xs)
 edits-step c m i from xs h = ap (map editOf) (rest-step c m i from xs h)
 
 pub edits-end : (c m i from : ℕ) (xs : List ℕ) → m ≤ i → map editOf (entriesAt c (m - i) from xs) ≡ []

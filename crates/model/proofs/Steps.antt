@@ -1,18 +1,17 @@
--- A run of edits, each of them allowed, leaves a good layer that reads as the table of those edits done one after the other by key.
+-- A run of edits, each of them allowed, leaves a good layer that reads as the table of those edits done one after the
+-- other by key.
 -- Assumes nothing.
-use mathlib.Core.Path.{_≡_, refl, sym, ap, _∙_}
-use mathlib.Core.Bool.{Bool, true, false, _&&_}
+use mathlib.Core.Path.{_≡_, refl, ap}
 use mathlib.Core.List.{List, [], _∷_, List·Memᴰ as Mem, List·Memᴰ·not-nil as not-nil}
-use Prim.Native.Nat.{ℕ, zero, suc, _≤_, _<_}
-use native.Mathlib.Omega.{arith}
-use lib.ListN.{length, getD}
+use Prim.Native.Nat.{ℕ, suc}
+use lib.ListN.{getD}
 use Rattle.order.specs.Lists.{inTurn}
 use Rattle.order.proofs.Ascending.{AscFrom, At, getD-at}
 use Rattle.model.specs.Row.{Row, Table, key, keys}
 use Rattle.model.specs.Layer.{Layer}
 use Rattle.model.specs.Read.{readFrom, read}
-use Rattle.model.specs.Steps.{Step, adding, striking, changing, stepOn, keyAt, stepBy, Allowed, AllAllowed}
-use Rattle.model.proofs.Fit.{Fit, Good}
+use Rattle.model.specs.Steps.{Step, adding, striking, changing, stepOn, stepBy, Allowed, AllAllowed}
+use Rattle.model.proofs.Fit.{Good}
 use Rattle.model.proofs.Edited.{Reads, add-good, add-reads, strike-good, strike-reads, change-good, change-reads}
 
 -- an empty layer over any table is good, and shows the base
@@ -37,7 +36,8 @@ empty-reads T = base-from 0 T
 
 module _ (c : ℕ) (T : Table) (a : AscFrom key 0 T) where
   -- one step
-  pub step-reads : (x : Step) (L : Layer) (M : Table) → Reads c T L M → Allowed c x M → Reads c T (stepOn (keys T) x L) (stepBy x M)
+  pub step-reads : (x : Step) (L : Layer) (M : Table) → Reads c T L M → Allowed c x M
+      → Reads c T (stepOn (keys T) x L) (stepBy x M)
   step-reads (adding r) L M S w =
       let free : (q : Row) → Mem q (read T L) → key q ≡ key r → ⊥ = λ q m. w .1 q (rw (S .reads) at m) in
       record {

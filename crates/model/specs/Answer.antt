@@ -1,4 +1,4 @@
--- The paper's number and value of each case of each answer.
+-- The scope's number and value of each case of each answer.
 use Prim.Native.Nat.{ℕ, _+_}
 use lib.IntN.{ℤ, pos}
 use Rattle.model.specs.declared.Refusal.{Refusal}

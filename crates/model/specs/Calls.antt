@@ -11,7 +11,7 @@ use Rattle.model.specs.declared.Shifted.the-variants as shifted
 use Rattle.model.specs.declared.Back.{Back}
 use Rattle.model.specs.declared.Back.the-variants as backed
 use Rattle.model.specs.Row.{Row, key}
-use Rattle.model.specs.Cell.{to}
+use Rattle.model.specs.Cell.{CellEdit, to}
 use Rattle.model.specs.Layer.{Layer, rowsAfter}
 use Rattle.model.specs.Raw.{layerOf, flat}
 use Rattle.model.specs.Form.{argsOk}
@@ -46,32 +46,51 @@ edited c m (Done k) L old =
     flat c L ++ (replicate ((m - length L) * (c + 2)) 0 ++ drop (max m (length L) * (c + 2)) old)
 edited c m (Refused x) L old = old
 
+-- The rows of the refusal table that calls share: 1 and 2 of a layer over n rows, where `ok` says that the arguments pass; 3 and 4.
+abbrev pub formRows : Bool → ℕ → ℕ → ℕ → List ℕ → List Test
+formRows ok c n m raw = badArgs ok ∷ badForm 0 c n m raw ∷ []
+
+abbrev pub fitRows : List ℕ → Layer → List Test
+fitRows K L = badKeys K ∷ badFit 0 K L ∷ []
+
+-- the same of two layers, the first over n rows with the keys K, the second over p rows with the keys N
+abbrev pub bothFormRows : Bool → ℕ → ℕ → ℕ → List ℕ → ℕ → ℕ → List ℕ → List Test
+bothFormRows ok c n m raw p k other = badArgs ok ∷ badForm 0 c n m raw ∷ badForm 1000 c p k other ∷ []
+
+abbrev pub bothFitRows : List ℕ → Layer → List ℕ → Layer → List Test
+bothFitRows K L N M = badKeys K ∷ badFit 0 K L ∷ badFit 1000 N M ∷ []
+
 -- the check behind every call: arguments and form; the result is the number of rows after the layer
 unfoldable pub formAnswer : ℕ → ℕ → ℕ → List ℕ → Answer
 formAnswer c n m raw =
-    firstMet Refused (badArgs (argsOk c n m (length raw))
-    ∷ badForm 0 c n m raw
-    ∷ []) (Done (rowsAfter n (layerOf c m raw)))
+    firstMet Refused (formRows (argsOk c n m (length raw)) c n m raw) (Done (rowsAfter n (layerOf c m raw)))
+
+-- the check behind every edit: fit besides; the result is the same
+unfoldable pub readyAnswer : ℕ → ℕ → List ℕ → List ℕ → Answer
+readyAnswer c m raw K =
+    let n = length K in
+    let L = layerOf c m raw in
+    firstMet Refused (formRows (argsOk c n m (length raw)) c n m raw ++ fitRows K L) (Done (rowsAfter n L))
 
 -- fit
 unfoldable pub fitAnswer : ℕ → ℕ → List ℕ → List ℕ → Answer
 fitAnswer c m raw K =
-    firstMet Refused (badArgs (argsOk c (length K) m (length raw))
-    ∷ badForm 0 c (length K) m raw
-    ∷ badKeys K
-    ∷ badFit 0 K (layerOf c m raw)
-    ∷ []) (Done 0)
+    let n = length K in
+    firstMet Refused (formRows (argsOk c n m (length raw)) c n m raw ++ fitRows K (layerOf c m raw)) (Done 0)
 
--- read column j, from the base column xs
+-- read column j, from the base column xs, into a buffer of len numbers
 abbrev pub shownColumn : ℕ → ℕ → List ℕ → List ℕ → ℕ → List ℕ
 shownColumn c m raw xs j = readColumn j xs (layerOf c m raw)
 
 unfoldable pub readAnswer : ℕ → ℕ → List ℕ → List ℕ → ℕ → ℕ → Answer
 readAnswer c m raw xs j len =
-    firstMet Refused (badArgs (argsOk c (length xs) m (length raw) && ltb j c)
-    ∷ badForm 0 c (length xs) m raw
-    ∷ refuse 11 0 (ltb len (length (shownColumn c m raw xs j)))
-    ∷ []) (Done (length (shownColumn c m raw xs j)))
+    let n = length xs in
+    let shown = shownColumn c m raw xs j in
+    firstMet Refused (formRows (argsOk c n m (length raw) && ltb j c) c n m raw
+    ++ (refuse 11 0 (ltb len (length shown)) ∷ [])) (Done (length shown))
+
+abbrev pub readSlice : ℕ → ℕ → List ℕ → List ℕ → ℕ → List ℕ → List ℕ
+readSlice c m raw xs j out = written (readAnswer c m raw xs j (length out)) (shownColumn c m raw xs j) out
 
 -- what the viewer gets after the read, and the numbers of that part
 abbrev pub seen : Answer → ℕ → Layer → Part
@@ -89,15 +108,12 @@ partNumbers xs out emptyBase = []
 -- shift, row number and back
 unfoldable pub shiftAnswer : ℕ → ℕ → ℕ → List ℕ → ℕ → Shifted
 shiftAnswer c n m raw s =
-    firstMet shifted.Refused (badArgs (argsOk c n m (length raw) && leb s n)
-    ∷ badForm 0 c n m raw
-    ∷ []) (shifted.By (shift (layerOf c m raw) s))
+    firstMet shifted.Refused (formRows (argsOk c n m (length raw) && leb s n) c n m raw)
+    (shifted.By (shift (layerOf c m raw) s))
 
 unfoldable pub rowAnswer : ℕ → ℕ → ℕ → List ℕ → ℕ → Answer
 rowAnswer c n m raw s =
-    firstMet Refused (badArgs (argsOk c n m (length raw) && leb s n)
-    ∷ badForm 0 c n m raw
-    ∷ []) (Done (rowOf (layerOf c m raw) s))
+    firstMet Refused (formRows (argsOk c n m (length raw) && leb s n) c n m raw) (Done (rowOf (layerOf c m raw) s))
 
 abbrev pub originAnswer : Origin → Back
 originAnswer (base s) = backed.Base s
@@ -105,96 +121,101 @@ originAnswer (added i) = backed.Added i
 
 unfoldable pub backAnswer : ℕ → ℕ → ℕ → List ℕ → ℕ → Back
 backAnswer c n m raw r =
-    firstMet backed.Refused (badArgs (argsOk c n m (length raw))
-    ∷ badForm 0 c n m raw
-    ∷ badRow n (layerOf c m raw) r
-    ∷ []) (originAnswer (back n (layerOf c m raw) r))
+    let L = layerOf c m raw in
+    firstMet backed.Refused (formRows (argsOk c n m (length raw)) c n m raw ++ (badRow n L r ∷ []))
+    (originAnswer (back n L r))
 
 -- add a row
 abbrev pub addedLayer : ℕ → ℕ → List ℕ → List ℕ → Row → Layer
 addedLayer c m raw K row = addRow K row (layerOf c m raw)
 
+abbrev pub addRows : ℕ → ℕ → List ℕ → Layer → Row → List Test
+addRows c len K L row =
+    let M = addRow K row L in
+    refuse 7 0 (shownKey (key row) (keysAfter K L)) ∷ noRoom c len M ∷ tooManyRows (rowsAfter (length K) M) ∷ []
+
 unfoldable pub addAnswer : ℕ → ℕ → List ℕ → List ℕ → Row → Answer
 addAnswer c m raw K row =
+    let n = length K in
     let L = layerOf c m raw in
-    let M = addedLayer c m raw K row in
-    firstMet Refused (badArgs (argsOk c (length K) m (length raw) && eqb (length row) c)
-    ∷ badForm 0 c (length K) m raw
-    ∷ badKeys K
-    ∷ badFit 0 K L
-    ∷ refuse 7 0 (shownKey (key row) (keysAfter K L))
-    ∷ noRoom c (length raw) M
-    ∷ tooManyRows (rowsAfter (length K) M)
-    ∷ []) (Done (length M))
+    firstMet Refused (formRows (argsOk c n m (length raw) && eqb (length row) c) c n m raw
+    ++ (fitRows K L ++ addRows c (length raw) K L row)) (Done (length (addedLayer c m raw K row)))
+
+abbrev pub addSlice : ℕ → ℕ → List ℕ → List ℕ → Row → List ℕ
+addSlice c m raw K row = edited c m (addAnswer c m raw K row) (addedLayer c m raw K row) raw
 
 -- strike row number r
 abbrev pub struckLayer : ℕ → ℕ → List ℕ → List ℕ → ℕ → Layer
 struckLayer c m raw K r = strikeRow K r (layerOf c m raw)
 
+abbrev pub strikeRows : ℕ → ℕ → List ℕ → Layer → ℕ → List Test
+strikeRows c len K L r = badRow (length K) L r ∷ noRoom c len (strikeRow K r L) ∷ []
+
 unfoldable pub strikeAnswer : ℕ → ℕ → List ℕ → List ℕ → ℕ → Answer
 strikeAnswer c m raw K r =
+    let n = length K in
     let L = layerOf c m raw in
-    let M = struckLayer c m raw K r in
-    firstMet Refused (badArgs (argsOk c (length K) m (length raw))
-    ∷ badForm 0 c (length K) m raw
-    ∷ badKeys K
-    ∷ badFit 0 K L
-    ∷ badRow (length K) L r
-    ∷ noRoom c (length raw) M
-    ∷ []) (Done (length M))
+    firstMet Refused (formRows (argsOk c n m (length raw)) c n m raw ++ (fitRows K L ++ strikeRows c (length raw) K L r))
+    (Done (length (struckLayer c m raw K r)))
+
+abbrev pub strikeSlice : ℕ → ℕ → List ℕ → List ℕ → ℕ → List ℕ
+strikeSlice c m raw K r = edited c m (strikeAnswer c m raw K r) (struckLayer c m raw K r) raw
 
 -- change column j of row number r to v
 abbrev pub changedLayer : ℕ → ℕ → List ℕ → List ℕ → ℕ → ℕ → ℕ → Layer
 changedLayer c m raw K r j v = changeRowNo K r j (to v) (layerOf c m raw)
 
+abbrev pub changeRows : ℕ → ℕ → List ℕ → Layer → ℕ → ℕ → CellEdit → List Test
+changeRows c len K L r j e =
+    badRow (length K) L r ∷ refuse 6 0 (eqb j 0) ∷ noRoom c len (changeRowNo K r j e L) ∷ []
+
 unfoldable pub changeAnswer : ℕ → ℕ → List ℕ → List ℕ → ℕ → ℕ → ℕ → Answer
 changeAnswer c m raw K r j v =
+    let n = length K in
     let L = layerOf c m raw in
-    let M = changedLayer c m raw K r j v in
-    firstMet Refused (badArgs (argsOk c (length K) m (length raw) && ltb j c)
-    ∷ badForm 0 c (length K) m raw
-    ∷ badKeys K
-    ∷ badFit 0 K L
-    ∷ badRow (length K) L r
-    ∷ refuse 6 0 (eqb j 0)
-    ∷ noRoom c (length raw) M
-    ∷ []) (Done (length M))
+    firstMet Refused (formRows (argsOk c n m (length raw) && ltb j c) c n m raw
+    ++ (fitRows K L ++ changeRows c (length raw) K L r j (to v))) (Done (length (changedLayer c m raw K r j v)))
+
+abbrev pub changeSlice : ℕ → ℕ → List ℕ → List ℕ → ℕ → ℕ → ℕ → List ℕ
+changeSlice c m raw K r j v = edited c m (changeAnswer c m raw K r j v) (changedLayer c m raw K r j v) raw
 
 -- combine the lower layer R and the upper W into a buffer of len numbers
 abbrev pub combinedLayer : ℕ → List ℕ → ℕ → List ℕ → ℕ → List ℕ → Layer
 combinedLayer c K mR rawR mW rawW = combine K (layerOf c mR rawR) (layerOf c mW rawW)
+
+abbrev pub combineRows : ℕ → ℕ → List ℕ → Layer → Layer → List Test
+combineRows c len K R W =
+    let M = combine K R W in
+    noRoom c len M ∷ tooManyRows (rowsAfter (length K) M) ∷ []
 
 unfoldable pub combineAnswer : ℕ → List ℕ → ℕ → List ℕ → ℕ → List ℕ → ℕ → Answer
 combineAnswer c K mR rawR mW rawW len =
     let n = length K in
     let R = layerOf c mR rawR in
     let W = layerOf c mW rawW in
-    let M = combinedLayer c K mR rawR mW rawW in
-    firstMet Refused (badArgs (argsOk c n mR (length rawR) && argsOk c n mW (length rawW))
-    ∷ badForm 0 c n mR rawR
-    ∷ badForm 1000 c (rowsAfter n R) mW rawW
-    ∷ badKeys K
-    ∷ badFit 0 K R
-    ∷ badFit 1000 (keysAfter K R) W
-    ∷ noRoom c len M
-    ∷ tooManyRows (rowsAfter n M)
-    ∷ []) (Done (length M))
+    firstMet Refused (bothFormRows (argsOk c n mR (length rawR) && argsOk c n mW (length rawW)) c n mR rawR
+    (rowsAfter n R) mW rawW
+    ++ (bothFitRows K R (keysAfter K R) W ++ combineRows c len K R W))
+    (Done (length (combinedLayer c K mR rawR mW rawW)))
+
+abbrev pub combineSlice : ℕ → List ℕ → ℕ → List ℕ → ℕ → List ℕ → List ℕ → List ℕ
+combineSlice c K mR rawR mW rawW out =
+    written (combineAnswer c K mR rawR mW rawW (length out)) (flat c (combinedLayer c K mR rawR mW rawW)) out
 
 -- move X past Y
 abbrev pub movedLayer : ℕ → ℕ → List ℕ → ℕ → List ℕ → Layer
 movedLayer c mX rawX mY rawY = move (layerOf c mX rawX) (layerOf c mY rawY)
+
+abbrev pub moveRows : ℕ → Layer → Layer → List Test
+moveRows n X Y = refuse 8 (conflictPlace X Y) (conflict X Y) ∷ tooManyRows (rowsAfter (rowsAfter n Y) X) ∷ []
 
 unfoldable pub moveAnswer : ℕ → List ℕ → ℕ → List ℕ → ℕ → List ℕ → Answer
 moveAnswer c K mX rawX mY rawY =
     let n = length K in
     let X = layerOf c mX rawX in
     let Y = layerOf c mY rawY in
-    firstMet Refused (badArgs (argsOk c n mX (length rawX) && argsOk c n mY (length rawY))
-    ∷ badForm 0 c n mX rawX
-    ∷ badForm 1000 c n mY rawY
-    ∷ badKeys K
-    ∷ badFit 0 K X
-    ∷ badFit 1000 K Y
-    ∷ refuse 8 (conflictPlace X Y) (conflict X Y)
-    ∷ tooManyRows (rowsAfter (rowsAfter n Y) X)
-    ∷ []) (Done mX)
+    firstMet Refused (bothFormRows (argsOk c n mX (length rawX) && argsOk c n mY (length rawY)) c n mX rawX n mY rawY
+    ++ (bothFitRows K X K Y ++ moveRows n X Y)) (Done mX)
+
+abbrev pub moveSlice : ℕ → List ℕ → ℕ → List ℕ → ℕ → List ℕ → List ℕ
+moveSlice c K mX rawX mY rawY = written (moveAnswer c K mX rawX mY rawY) (flat c (movedLayer c mX rawX mY rawY)) rawX

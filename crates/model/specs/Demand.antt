@@ -7,7 +7,7 @@ use lib.Dec.{eqb}
 use Rattle.order.specs.Lists.{any}
 use Rattle.model.specs.Row.{key}
 use Rattle.model.specs.Cell.{CellEdit, agree}
-use Rattle.model.specs.Layer.{Edit, at, add, strike, change, Layer, struck, changesRow}
+use Rattle.model.specs.Layer.{Edit, at, change, Layer, onAdd, struck, changesRow}
 
 -- the set changes base row s
 abbrev pub rowChanged : ℕ → Layer → Bool
@@ -15,9 +15,7 @@ rowChanged s L = any (changesRow s) L
 
 -- the set adds key k
 abbrev pub addsKey : ℕ → Edit → Bool
-addsKey k (at s (add r)) = eqb k (key r)
-addsKey k (at s (strike l)) = false
-addsKey k (at s (change j e)) = false
+addsKey k = onAdd (λ s r. eqb k (key r))
 
 abbrev pub keyAdded : ℕ → Layer → Bool
 keyAdded k L = any (addsKey k) L

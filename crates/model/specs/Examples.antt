@@ -1,4 +1,4 @@
--- E1 to E12 of the paper, one table of data; and what it is for a line of it to hold.
+-- E1 to E12 of the scope, one table of data; and what it is for a line of it to hold.
 use mathlib.Core.Bool.{Bool, true, false, not, _&&_}
 use mathlib.Core.List.{List, [], _∷_, map}
 use Prim.Native.Nat.{ℕ, suc}

@@ -23,15 +23,27 @@ Layer = List Edit
 abbrev pub position : Edit → ℕ
 position (at s d) = s
 
+-- tests on edits of one kind: an add by its position and row, a strike by its position and key, a change by its position and column
+abbrev pub onAdd : (ℕ → Row → Bool) → Edit → Bool
+onAdd f (at s (add r)) = f s r
+onAdd f (at s (strike k)) = false
+onAdd f (at s (change j e)) = false
+
+abbrev pub onStrike : (ℕ → ℕ → Bool) → Edit → Bool
+onStrike f (at s (add r)) = false
+onStrike f (at s (strike k)) = f s k
+onStrike f (at s (change j e)) = false
+
+abbrev pub onChange : (ℕ → ℕ → Bool) → Edit → Bool
+onChange f (at s (add r)) = false
+onChange f (at s (strike k)) = false
+onChange f (at s (change j e)) = f s j
+
 abbrev pub isAdd : Edit → Bool
-isAdd (at s (add r)) = true
-isAdd (at s (strike k)) = false
-isAdd (at s (change j e)) = false
+isAdd = onAdd (λ s r. true)
 
 abbrev pub isStrike : Edit → Bool
-isStrike (at s (add r)) = false
-isStrike (at s (strike k)) = true
-isStrike (at s (change j e)) = false
+isStrike = onStrike (λ s k. true)
 
 -- rows after the layer: n + adds - strikes
 abbrev pub rowsAfter : ℕ → Layer → ℕ
@@ -45,20 +57,14 @@ addedBy s (at p (change j e)) = []
 
 -- the edit strikes base row s
 abbrev pub strikesRow : ℕ → Edit → Bool
-strikesRow s (at p (add r)) = false
-strikesRow s (at p (strike k)) = eqb s p
-strikesRow s (at p (change j e)) = false
+strikesRow s = onStrike (λ p k. eqb s p)
 
 -- the edit changes base row s, and column j of base row s
 abbrev pub changesRow : ℕ → Edit → Bool
-changesRow s (at p (add r)) = false
-changesRow s (at p (strike k)) = false
-changesRow s (at p (change j e)) = eqb s p
+changesRow s = onChange (λ p j. eqb s p)
 
 abbrev pub changesCell : ℕ → ℕ → Edit → Bool
-changesCell s j (at p (add r)) = false
-changesCell s j (at p (strike k)) = false
-changesCell s j (at p (change i e)) = eqb s p && eqb j i
+changesCell s j = onChange (λ p i. eqb s p && eqb j i)
 
 -- base row s once the edit is done to it, and its column j
 abbrev pub changeRow : ℕ → Edit → Row → Row

@@ -1,4 +1,4 @@
--- The three limits of the paper, each named once.
+-- The three limits of the scope, each named once.
 use Prim.Native.Nat.{ℕ}
 
 -- columns of a table

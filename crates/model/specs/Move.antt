@@ -1,24 +1,20 @@
 -- Moving X past Y: only X's positions change.
-use mathlib.Core.Bool.{Bool, false, _&&_}
-use mathlib.Core.List.{List, map}
+use mathlib.Core.Bool.{Bool, _&&_}
+use mathlib.Core.List.{map}
 use Prim.Native.Nat.{ℕ, _+_, _-_}
 use lib.Dec.{ltb, eqb}
 use Rattle.order.specs.Lists.{count}
 use Rattle.model.specs.Row.{key}
-use Rattle.model.specs.Layer.{Deed, add, strike, change, Edit, at, Layer}
+use Rattle.model.specs.Layer.{add, strike, change, Edit, at, Layer, onAdd}
 use Rattle.model.specs.Position.{strikeBefore, rowOf}
 
 -- an add at a position before s
 abbrev pub addBefore : ℕ → Edit → Bool
-addBefore s (at p (add r)) = ltb p s
-addBefore s (at p (strike k)) = false
-addBefore s (at p (change j e)) = false
+addBefore s = onAdd (λ p r. ltb p s)
 
 -- an add at s with key below k
 abbrev pub addHereBelow : ℕ → ℕ → Edit → Bool
-addHereBelow s k (at p (add r)) = eqb s p && ltb (key r) k
-addHereBelow s k (at p (strike l)) = false
-addHereBelow s k (at p (change j e)) = false
+addHereBelow s k = onAdd (λ p r. eqb s p && ltb (key r) k)
 
 -- an add at s with key k moves by Y's adds before s, plus Y's adds at s with key below k, less Y's strikes before s
 unfoldable pub addPosition : Layer → ℕ → ℕ → ℕ

@@ -1,26 +1,21 @@
 -- Positions: the shift at a base position, its row number, and back from a row number to what stands there.
-use mathlib.Core.Bool.{Bool, false}
+use mathlib.Core.Bool.{Bool, cond}
 use mathlib.Core.List.{List, [], _∷_, map}
-use mathlib.Core.Bool.{cond}
 use Prim.Native.Nat.{ℕ, suc, _+_, _-_}
 use lib.ListN.{getD, replicate}
 use lib.IntN.{ℤ, subℕ}
 use lib.Dec.{leb, ltb, eqb}
 use Rattle.order.specs.Lists.{count}
-use Rattle.model.specs.Layer.{Edit, at, add, strike, change, Layer, struck}
+use Rattle.model.specs.Layer.{Edit, at, add, strike, change, Layer, onAdd, onStrike, struck}
 use Rattle.model.specs.Read.{unless, through}
 
 -- an add at a position up to and including s
 abbrev pub addUpTo : ℕ → Edit → Bool
-addUpTo s (at p (add r)) = leb p s
-addUpTo s (at p (strike k)) = false
-addUpTo s (at p (change j e)) = false
+addUpTo s = onAdd (λ p r. leb p s)
 
 -- a strike at a position before s
 abbrev pub strikeBefore : ℕ → Edit → Bool
-strikeBefore s (at p (add r)) = false
-strikeBefore s (at p (strike k)) = ltb p s
-strikeBefore s (at p (change j e)) = false
+strikeBefore s = onStrike (λ p k. ltb p s)
 
 -- the shift at base position s: adds up to and including s, less strikes before s, a signed number
 unfoldable pub shift : Layer → ℕ → ℤ

@@ -51,9 +51,14 @@ pub record Held (c m : ℕ) (xs : List ℕ) : Type 0 where
 abbrev pub entriesOf : ℕ → ℕ → List ℕ → List Entry
 entriesOf c m xs = entriesAt c m 0 xs
 
+-- a change's kind is its column
+abbrev pub columnOf : ℕ → ℕ
+columnOf k = k
+
 -- kinds: 65,535 add (values: the row); 65,534 strike (the struck key); else change of that column (the new value)
 abbrev pub deedOf : ℕ → List ℕ → Deed
-deedOf k vs = cond (eqb k ADD) (add vs) (cond (eqb k STRIKE) (strike (getD vs 0 0)) (change k (to (getD vs 0 0))))
+deedOf k vs =
+    cond (eqb k ADD) (add vs) (cond (eqb k STRIKE) (strike (getD vs 0 0)) (change (columnOf k) (to (getD vs 0 0))))
 
 abbrev pub editOf : Entry → Edit
 editOf e = at (e .pos) (deedOf (e .kind) (e .vals))

@@ -1,5 +1,7 @@
-// The words of the paper that code and contracts share: an entry and its kinds, the limits, a refusal, the answers.
+// The words of the scope that code and contracts share: an entry and its kinds, the limits, a refusal, the answers.
 ghost use mathlib.Core.Path.{_≡_};
+ghost use Rattle.model.specs.declared.Answer.the-variants.{Refused};
+ghost use Rattle.model.specs.Refusals.{refusal};
 ghost use Rattle.model.specs.Raw.{addEntry, strikeEntry, changeEntry};
 ghost use Rattle.model.specs.Answer.{numberOf, valueOf, shiftNumber, shiftValue, backNumber, backValue};
 
@@ -56,7 +58,7 @@ impl Entry {
     }
 }
 
-// A refusal: its number in the paper's table, and its place.
+// A refusal: its number in the scope's table, and its place.
 pub struct Refusal {
     pub number: u64,
     pub place: usize,
@@ -82,7 +84,14 @@ pub enum Back {
 }
 
 impl Answer {
-    // The paper's number of the answer: 0, or the refusal's.
+    // A refusal by its number and place.
+    pub fn refused(number: u64, place: usize) -> Self
+        ensures { λ r. ⌜ r ≡ Refused (refusal number place) ⌝ }
+    {
+        Answer::Refused(Refusal { number, place })
+    }
+
+    // The scope's number of the answer: 0, or the refusal's.
     pub fn number(self) -> u64
         ensures { λ r. ⌜ r ≡ numberOf self ⌝ }
     {

@@ -1,26 +1,14 @@
 -- Lists that a number of each element strictly sorts: places, how many lie below a number, equality by members.
 -- Assumes nothing.
 use mathlib.Core.Path.{_≡_, refl, sym, ap, _∙_}
-use mathlib.Core.Logic.{_⊎_, inl, inr, ⊎-elim}
-use mathlib.Core.Bool.{Bool, true, false, cond, _&&_, _||_}
-use mathlib.Core.List.{
-  List,
-  [],
-  _∷_,
-  _++_,
-  map,
-  List·Memᴰ as Mem,
-  List·Memᴰ·head as here,
-  List·Memᴰ·tail as next,
-  List·Memᴰ·not-nil as not-nil,
-  List·Memᴰ·cases-cons as cases-cons,
-}
+use mathlib.Core.Bool.{Bool, true, false}
+use mathlib.Core.List.{List, [], _∷_, _++_, map, List·Memᴰ as Mem, List·Memᴰ·head as here, List·Memᴰ·tail as next}
 use Prim.Native.Nat.{ℕ, zero, suc, _+_, _-_, _≤_, _<_}
 use native.Mathlib.Omega.{arith}
 use lib.ListN.{length, getD}
-use lib.Dec.{leb, ltb, eqb}
-use borrow.Author.Tests.{ltb-true, ltb-false, lt-ltb, le-ltb}
-use Rattle.order.specs.Lists.{one, count, rising, ascending}
+use lib.Dec.{ltb}
+use borrow.Author.Tests.{ltb-true, ltb-false, lt-ltb}
+use Rattle.order.specs.Lists.{count, rising, ascending}
 use Rattle.order.proofs.Tests.{tests, and-l, and-r, and-of, one-lt, one-ge, one-mono}
 use Rattle.order.proofs.Pairs.{AllPairs, pairs-ext}
 
@@ -91,9 +79,19 @@ module _ {A : Type 0} (key : A → ℕ) where
 
   pub at-count : (b s : ℕ) (M : List A) → AscFrom b M → (q : A) (p : ℕ) → At q p s M → s + count (below (key q)) M ≡ p
   at-count b s (x ∷ M) a q p (top e f) =
-      omega (arith, one-ge (key x) (key q) (omega (arith, ap key e)), asc-none (suc (key x)) M (key q) (a .1) (omega (arith, ap key e)))
+      omega (
+        arith,
+        one-ge (key x) (key q) (omega (arith, ap key e)),
+        asc-none (suc (key x)) M (key q) (a .1)
+            (omega (arith, ap key e)),
+      )
   at-count b s (x ∷ M) a q p (deep n) =
-      omega (arith, one-lt (key x) (key q) (asc-mem (suc (key x)) M (a .1) q (at-mem n)), at-count (suc (key x)) (suc s) M (a .1) q p n)
+      omega (
+        arith,
+        one-lt (key x) (key q) (asc-mem (suc (key x)) M (a .1) q (at-mem n)),
+        at-count (suc (key x))
+            (suc s) M (a .1) q p n,
+      )
 
   -- the number of keys below k grows with k, and strictly past a key of the table
   pub count-mono : (M : List A) (k l : ℕ) → k ≤ l → count (below k) M ≤ count (below l) M
@@ -102,19 +100,22 @@ module _ {A : Type 0} (key : A → ℕ) where
 
   pub count-strict : (M : List A) (q : A) (l : ℕ) → Mem q M → key q < l → count (below (key q)) M < count (below l) M
   count-strict (x ∷ M) q l (here e) h =
-      omega (arith, one-ge (key x) (key q) (omega (arith, ap key e)), one-lt (key x) l (omega (arith, ap key e)), count-mono M (key q) l (omega arith))
+      omega (
+        arith,
+        one-ge (key x) (key q) (omega (arith, ap key e)),
+        one-lt (key x) l
+            (omega (arith, ap key e)),
+        count-mono M (key q) l (omega arith),
+      )
   count-strict (x ∷ M) q l (next m) h = omega (arith, one-mono (key x) (key q) l (omega arith), count-strict M q l m h)
 
-  -- ascending lists joined, raised, lowered
-  pub asc-raise : (a b : ℕ) (M : List A) → AscFrom a M → ((r : A) → Mem r M → b ≤ key r) → AscFrom b M
-  asc-raise a b [] s h = tt
-  asc-raise a b (x ∷ M) s h = (h x (here refl), s .1)
-
+  -- ascending lists lowered, joined
   pub asc-lower : (a b : ℕ) (M : List A) → AscFrom a M → b ≤ a → AscFrom b M
   asc-lower a b [] s h = tt
   asc-lower a b (x ∷ M) s h = (omega arith, s .1)
 
-  pub asc-append : (b c : ℕ) (L M : List A) → AscFrom b L → ((r : A) → Mem r L → key r < c) → b ≤ c → AscFrom c M → AscFrom b (L ++ M)
+  pub asc-append : (b c : ℕ) (L M : List A) → AscFrom b L → ((r : A) → Mem r L → key r < c) → b ≤ c → AscFrom c M
+      → AscFrom b (L ++ M)
   asc-append b c [] M s h l t = asc-lower c b M t l
   asc-append b c (x ∷ L) M s h l t =
       (s .0, asc-append (suc (key x)) c L M (s .1) (λ r m. h r (next m)) (h x (here refl)) t)

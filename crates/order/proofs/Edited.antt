@@ -98,22 +98,47 @@ module _ {A B : Type 0} where
   at-map f (suc i) (x ∷ M) b a = let w = at-map f i M b (at-tail a) in (w .0, at-next x (w .1), w .2)
 
   -- what each step of a walk keeps, the walk keeps
-  pub turn-keeps : (P : B → Type 0) (f : A → B → B) (xs : List A) (b : B) → ((x : A) → Mem x xs → (c : B) → P c → P (f x c)) → P b
+  pub turn-keeps : (P : B → Type 0) (f : A → B → B) (xs : List A) (b : B)
+      → ((x : A) → Mem x xs → (c : B) → P c → P (f x c)) → P b
       → P (inTurn f xs b)
   turn-keeps P f [] b h p = p
   turn-keeps P f (x ∷ xs) b h p = turn-keeps P f xs (f x b) (λ y m. h y (next m)) (h x (here refl) b p)
 
-  -- a walk passes over an element that does nothing
-  pub turn-insert : (f : A → B → B) (R : A → A → Bool) (e : A) (xs : List A) (b : B) → ((c : B) → f e c ≡ c)
-      → inTurn f (insert R e xs) b ≡ inTurn f xs b
-  turn-insert f R e [] b h = h b
-  turn-insert f R e (x ∷ xs) b h = go (turn-insert f R e xs (f x b) h) (R x e)
-    where
-      go : inTurn f (insert R e xs) (f x b) ≡ inTurn f xs (f x b) → (t : Bool)
-          → inTurn f (cond t (x ∷ insert R e xs) (e ∷ x ∷ xs)) b ≡ inTurn f xs (f x b)
-      go ih true = ih
-      go ih false = ap (λ (c : B). inTurn f xs (f x c)) (h b)
+  -- a walk whose steps leave b leaves b
+  pub turn-idle : (f : A → B → B) (xs : List A) (b : B) → ((x : A) → Mem x xs → f x b ≡ b) → inTurn f xs b ≡ b
+  turn-idle f xs b h = turn-keeps (λ c. c ≡ b) f xs b (λ x m c p. ap (f x) p ∙ h x m) refl
 
+  -- what trades places with every step of a walk may be done before it or after it
+  pub turn-past : (f : A → B → B) (g : B → B) (xs : List A) (b : B) → ((x : A) → Mem x xs → (c : B) → f x (g c) ≡ g (f x c))
+      → inTurn f xs (g b) ≡ g (inTurn f xs b)
+  turn-past f g [] b h = refl
+  turn-past f g (x ∷ xs) b h = ap (inTurn f xs) (h x (here refl) b) ∙ turn-past f g xs (f x b) (λ y m. h y (next m))
+
+  -- so a step that does may stand where an order puts it
+  module _ (f : A → B → B) (e : A) where
+    pub turn-enter : (R : A → A → Bool) (xs : List A) (b : B) → ((x : A) → Mem x xs → (c : B) → f x (f e c) ≡ f e (f x c))
+        → inTurn f (insert R e xs) b ≡ f e (inTurn f xs b)
+    turn-enter R [] b h = refl
+    turn-enter R (x ∷ xs) b h = go (turn-enter R xs (f x b) (λ y m. h y (next m))) (R x e)
+      where
+        go : inTurn f (insert R e xs) (f x b) ≡ f e (inTurn f xs (f x b)) → (t : Bool)
+            → inTurn f (cond t (x ∷ insert R e xs) (e ∷ x ∷ xs)) b ≡ f e (inTurn f xs (f x b))
+        go ih true = ih
+        go ih false = turn-past f (f e) (x ∷ xs) b h
+
+    -- and before it a step that it undoes may be left out
+    pub turn-absorb : (g : A → Bool) (xs : List A) → ((x : A) → g x ≡ true → (c : B) → f x (f e c) ≡ f e (f x c))
+        → ((x : A) → g x ≡ false → (c : B) → f e (f x c) ≡ f e c) → (b c : B) → f e b ≡ f e c
+        → f e (inTurn f (filter g xs) b) ≡ f e (inTurn f xs c)
+    turn-absorb g [] trades undone b c h = h
+    turn-absorb g (x ∷ xs) trades undone b c h = go (turn-absorb g xs trades undone) (g x) refl
+      where
+        go : ((b c : B) → f e b ≡ f e c → f e (inTurn f (filter g xs) b) ≡ f e (inTurn f xs c)) → (t : Bool) → g x ≡ t
+            → f e (inTurn f (cond t (x ∷ filter g xs) (filter g xs)) b) ≡ f e (inTurn f xs (f x c))
+        go ih true k = ih (f x b) (f x c) (sym (trades x k b) ∙ (ap (f x) h ∙ trades x k c))
+        go ih false k = ih b (f x c) (h ∙ sym (undone x k c))
+
+  -- a walk passes over elements that do nothing
   pub turn-filter : (f : A → B → B) (g : A → Bool) (xs : List A) (b : B) → ((x : A) → g x ≡ false → (c : B) → f x c ≡ c)
       → inTurn f (filter g xs) b ≡ inTurn f xs b
   turn-filter f g [] b h = refl
@@ -123,12 +148,6 @@ module _ {A B : Type 0} where
           → inTurn f (cond t (x ∷ filter g xs) (filter g xs)) b ≡ inTurn f xs (f x b)
       go ih true e = ih (f x b)
       go ih false e = ih b ∙ ap (inTurn f xs) (sym (h x e b))
-
-  pub turn-without : (f : A → B → B) (i : ℕ) (xs : List A) (e : A) (b : B) → At e i 0 xs → ((c : B) → f e c ≡ c)
-      → inTurn f (without i xs) b ≡ inTurn f xs b
-  turn-without f i [] e b a h = absurd (at-none a)
-  turn-without f zero (x ∷ xs) e b a h = ap (inTurn f xs) (sym (ap (λ (z : A). f z b) (sym (at-head a)) ∙ h b))
-  turn-without f (suc i) (x ∷ xs) e b a h = turn-without f i xs e (f x b) (at-tail a) h
 
 -- in an ascending list, by key is by place
 module _ {A : Type 0} (key : A → ℕ) where

@@ -8,3 +8,4 @@ pub mod Gather
 pub mod Neighbours
 pub mod First
 pub mod Splice
+pub mod Unique

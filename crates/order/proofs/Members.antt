@@ -1,13 +1,12 @@
 -- Who is a member of a filtered, gathered, inserted-into or mapped list, and what all and any say of members.
 -- Assumes nothing.
 use mathlib.Core.Path.{_≡_, refl, sym, ap, _∙_}
-use mathlib.Core.Logic.{_⊎_, inl, inr, ⊎-elim}
-use mathlib.Core.Bool.{Bool, true, false, not, cond, _&&_, _||_, true≢false}
+use mathlib.Core.Logic.{_⊎_, inl, inr}
+use mathlib.Core.Bool.{Bool, true, false, cond, _||_, true≢false}
 use mathlib.Core.List.{
   List,
   [],
   _∷_,
-  _++_,
   map,
   List·Memᴰ as Mem,
   List·Memᴰ·head as here,
@@ -17,7 +16,6 @@ use mathlib.Core.List.{
   Memᴰ·append-left as append-left,
   Memᴰ·append-right as append-right,
 }
-use Prim.Native.Nat.{ℕ, zero, suc}
 use Rattle.order.specs.Lists.{all, any, filter, insert, gather}
 use Rattle.order.proofs.Tests.{and-l, and-r, and-of, or-cases, or-l, or-r, or-false}
 
@@ -65,7 +63,8 @@ module _ {A : Type 0} where
       deeper : Mem x ys × (f x ≡ true) → Mem x (y ∷ ys) × (f x ≡ true)
       deeper w = (next (w .0), w .1)
 
-      go : (Mem x (filter f ys) → Mem x ys × (f x ≡ true)) → (t : Bool) → f y ≡ t → Mem x (cond t (y ∷ filter f ys) (filter f ys))
+      go : (Mem x (filter f ys) → Mem x ys × (f x ≡ true)) → (t : Bool) → f y ≡ t
+          → Mem x (cond t (y ∷ filter f ys) (filter f ys))
           → Mem x (y ∷ ys) × (f x ≡ true)
       go ih true e (here h) = (here h, ap f h ∙ e)
       go ih true e (next n) = deeper (ih n)

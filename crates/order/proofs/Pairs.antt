@@ -1,4 +1,5 @@
--- A rule that every pair of a list obeys: by members, for filters, maps and insertions; two lists that a strict order sorts and that have the same members are one.
+-- A rule that every pair of a list obeys: by members, for filters, maps and insertions; two lists that a strict order
+-- sorts and that have the same members are one.
 -- Assumes nothing.
 use mathlib.Core.Path.{_≡_, refl, sym, ap, _∙_}
 use mathlib.Core.Logic.{_⊎_, inl, inr, ⊎-elim}
@@ -38,7 +39,8 @@ module _ {A : Type 0} where
 
   -- two rules are one
   pub pairs-both : (R S Q : A → A → Bool) (xs : List A)
-      → ((x y : A) → Mem x xs → Mem y xs → R x y ≡ true → S x y ≡ true → Q x y ≡ true) → AllPairs R xs → AllPairs S xs → AllPairs Q xs
+      → ((x y : A) → Mem x xs → Mem y xs → R x y ≡ true → S x y ≡ true → Q x y ≡ true) → AllPairs R xs → AllPairs S xs
+      → AllPairs Q xs
   pairs-both R S Q [] h p q = tt
   pairs-both R S Q (x ∷ xs) h p q = (
     λ y m. h x y (here refl) (next m) (p .0 y m) (q .0 y m),
@@ -82,28 +84,31 @@ module _ {A : Type 0} where
           later y (inr n) = trans e x y first (p .0 y n)
 
   -- the order and the members say the list
-  pub pairs-ext : (R : A → A → Bool) → ((x y : A) → R x y ≡ true → R y x ≡ true → ⊥) → (xs ys : List A) → AllPairs R xs → AllPairs R ys
-      → ((x : A) → Mem x xs → Mem x ys) → ((x : A) → Mem x ys → Mem x xs) → xs ≡ ys
-  pairs-ext R asym [] [] p q f g = refl
-  pairs-ext R asym [] (y ∷ ys) p q f g = absurd (not-nil (g y (here refl)))
-  pairs-ext R asym (x ∷ xs) [] p q f g = absurd (not-nil (f x (here refl)))
-  pairs-ext R asym (x ∷ xs) (y ∷ ys) p q f g =
-      let tails = pairs-ext R asym xs ys (p .1) (q .1) left right in λ i. heads i ∷ tails i
-    where
-      heads : x ≡ y
-      heads =
-          ⊎-elim (λ e. e) (λ m. ⊎-elim (λ e. sym e) (λ n. absurd (asym x y (p .0 y n) (q .0 x m))) (cases-cons (g y (here refl))))
-          (cases-cons (f x (here refl)))
+  module _ (R : A → A → Bool) (asym : (x y : A) → R x y ≡ true → R y x ≡ true → ⊥) where
+    -- two lists with one head: what is behind it in one is behind it in the other
+    behind-head : (x y : A) (xs ys : List A) → x ≡ y → AllPairs R (x ∷ xs) → ((r : A) → Mem r (x ∷ xs) → Mem r (y ∷ ys))
+        → (r : A) → Mem r xs → Mem r ys
+    behind-head x y xs ys h p f r m =
+        ⊎-elim (λ e. absurd (twice (ap (R x) (h ∙ sym e) ∙ p .0 r m))) (λ n. n) (cases-cons (f r (next m)))
+      where
+        twice : R x x ≡ true → ⊥
+        twice t = asym x x t t
 
-      left : (r : A) → Mem r xs → Mem r ys
-      left r m =
-          ⊎-elim (λ e. absurd (asym x x (ap (R x) (heads ∙ sym e) ∙ p .0 r m) (ap (R x) (heads ∙ sym e) ∙ p .0 r m))) (λ n. n)
-          (cases-cons (f r (next m)))
-
-      right : (r : A) → Mem r ys → Mem r xs
-      right r m =
-          ⊎-elim (λ e. absurd (asym y y (ap (R y) (sym heads ∙ sym e) ∙ q .0 r m) (ap (R y) (sym heads ∙ sym e) ∙ q .0 r m))) (λ n. n)
-          (cases-cons (g r (next m)))
+    pub pairs-ext : (xs ys : List A) → AllPairs R xs → AllPairs R ys → ((x : A) → Mem x xs → Mem x ys)
+        → ((x : A) → Mem x ys → Mem x xs)
+        → xs ≡ ys
+    pairs-ext [] [] p q f g = refl
+    pairs-ext [] (y ∷ ys) p q f g = absurd (not-nil (g y (here refl)))
+    pairs-ext (x ∷ xs) [] p q f g = absurd (not-nil (f x (here refl)))
+    pairs-ext (x ∷ xs) (y ∷ ys) p q f g =
+        let tails = pairs-ext xs ys (p .1) (q .1) (behind-head x y xs ys heads p f) (behind-head y x ys xs (sym heads) q g) in
+        λ i. heads i ∷ tails i
+      where
+        heads : x ≡ y
+        heads =
+            ⊎-elim (λ e. e) (λ m. ⊎-elim (λ e. sym e) (λ n. absurd (asym x y (p .0 y n) (q .0 x m)))
+            (cases-cons (g y (here refl))))
+            (cases-cons (f x (here refl)))
 
   -- what it says that no element breaks a rule, and that so it is
   pub record Unbroken (alone : A → Bool) (pair : A → A → Bool) (earlier xs : List A) : Type 0 where
@@ -111,45 +116,41 @@ module _ {A : Type 0} where
     pub past : (y x : A) → Mem y earlier → Mem x xs → pair y x ≡ true
     pub pairs : AllPairs pair xs
 
-  pub broken-le : (alone : A → Bool) (pair : A → A → Bool) (earlier xs : List A) → leastBroken alone pair earlier xs ≤ length xs
-  broken-le alone pair earlier [] = omega arith
-  broken-le alone pair earlier (x ∷ xs) =
-      go (broken-le alone pair (x ∷ earlier) xs) (alone x && all (λ y. pair y x) earlier)
-    where
-      go : leastBroken alone pair (x ∷ earlier) xs ≤ length xs → (t : Bool)
-          → cond t (suc (leastBroken alone pair (x ∷ earlier) xs)) 0 ≤ suc (length xs)
-      go ih true = omega arith
-      go ih false = omega arith
+  module _ (alone : A → Bool) (pair : A → A → Bool) where
+    pub broken-le : (earlier xs : List A) → leastBroken alone pair earlier xs ≤ length xs
+    broken-le earlier [] = omega arith
+    broken-le earlier (x ∷ xs) = go (broken-le (x ∷ earlier) xs) (alone x && all (λ y. pair y x) earlier)
+      where
+        go : leastBroken alone pair (x ∷ earlier) xs ≤ length xs → (t : Bool)
+            → cond t (suc (leastBroken alone pair (x ∷ earlier) xs)) 0 ≤ suc (length xs)
+        go ih true = omega arith
+        go ih false = omega arith
 
-  pub unbroken : (alone : A → Bool) (pair : A → A → Bool) (earlier xs : List A) → leastBroken alone pair earlier xs ≡ length xs
-      → Unbroken alone pair earlier xs
-  unbroken alone pair earlier [] e = record {
-    each = λ x m. absurd (not-nil m);
-    past = λ y x n m. absurd (not-nil m);
-    pairs = tt;
-  }
-  unbroken alone pair earlier (x ∷ xs) e =
-      go (λ h. unbroken alone pair (x ∷ earlier) xs h) (alone x && all (λ y. pair y x) earlier) refl e
-    where
-      go : (leastBroken alone pair (x ∷ earlier) xs ≡ length xs → Unbroken alone pair (x ∷ earlier) xs)
-          → (t : Bool) → alone x && all (λ y. pair y x) earlier ≡ t
-          → cond t (suc (leastBroken alone pair (x ∷ earlier) xs)) 0 ≡ suc (length xs)
-          → Unbroken alone pair earlier (x ∷ xs)
-      go ih false h f = absurd (omega arith)
-      go ih true h f = whole (ih (omega arith))
-        where
-          alone-x : alone x ≡ true
-          alone-x = and-l (alone x) (all (λ y. pair y x) earlier) h
+    -- one more element in front, sound alone and with the earlier ones
+    unbroken-front : (earlier : List A) (x : A) (xs : List A) → alone x && all (λ y. pair y x) earlier ≡ true
+        → Unbroken alone pair (x ∷ earlier) xs → Unbroken alone pair earlier (x ∷ xs)
+    unbroken-front earlier x xs h U =
+        let a = and-l (alone x) (all (λ y. pair y x) earlier) h in
+        let b = all-mem (λ y. pair y x) earlier (and-r (alone x) (all (λ y. pair y x) earlier) h) in
+        record {
+          each = λ z m. ⊎-elim (λ g. ap alone g ∙ a) (λ n. U .each z n) (cases-cons m);
+          past = λ y z n m. ⊎-elim (λ g. ap (pair y) g ∙ b y n) (λ k. U .past y z (next n) k) (cases-cons m);
+          pairs = (λ y m. U .past x y (here refl) m, U .pairs);
+        }
 
-          after-all : (y : A) → Mem y earlier → pair y x ≡ true
-          after-all = all-mem (λ y. pair y x) earlier (and-r (alone x) (all (λ y. pair y x) earlier) h)
-
-          whole : Unbroken alone pair (x ∷ earlier) xs → Unbroken alone pair earlier (x ∷ xs)
-          whole U = record {
-            each = λ z m. ⊎-elim (λ g. ap alone g ∙ alone-x) (λ n. U .each z n) (cases-cons m);
-            past = λ y z n m. ⊎-elim (λ g. ap (pair y) g ∙ after-all y n) (λ k. U .past y z (next n) k) (cases-cons m);
-            pairs = (λ y m. U .past x y (here refl) m, U .pairs);
-          }
+    pub unbroken : (earlier xs : List A) → leastBroken alone pair earlier xs ≡ length xs → Unbroken alone pair earlier xs
+    unbroken earlier [] e = record {
+      each = λ x m. absurd (not-nil m);
+      past = λ y x n m. absurd (not-nil m);
+      pairs = tt;
+    }
+    unbroken earlier (x ∷ xs) e = go (λ h. unbroken (x ∷ earlier) xs h) (alone x && all (λ y. pair y x) earlier) refl e
+      where
+        go : (leastBroken alone pair (x ∷ earlier) xs ≡ length xs → Unbroken alone pair (x ∷ earlier) xs)
+            → (t : Bool) → alone x && all (λ y. pair y x) earlier ≡ t
+            → cond t (suc (leastBroken alone pair (x ∷ earlier) xs)) 0 ≡ suc (length xs) → Unbroken alone pair earlier (x ∷ xs)
+        go ih false h f = absurd (omega arith)
+        go ih true h f = unbroken-front earlier x xs h (ih (omega arith))
 
   -- then none does with the first among the earlier ones
   pub unbroken-next : {alone : A → Bool} {pair : A → A → Bool} {earlier : List A} (x : A) {xs : List A}

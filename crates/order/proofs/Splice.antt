@@ -1,4 +1,5 @@
--- Fronts and rests of a list; an element entered and others taken out at one place: the list's front, the element, the list's rest.
+-- Fronts and rests of a list; an element entered and others taken out at one place: the list's front, the element,
+-- the list's rest.
 -- Assumes nothing.
 use mathlib.Core.Path.{_≡_, refl, sym, ap, _∙_}
 use mathlib.Core.Bool.{Bool, true, false, not, cond, true≢false}

@@ -1,11 +1,11 @@
 -- Tests joined and taken apart; `omega tests` reads what a test on numbers says, and proves that one passes or fails.
 -- Assumes nothing.
-use mathlib.Core.Path.{_≡_, refl, sym, ap, _∙_}
+use mathlib.Core.Path.{_≡_, refl, sym, ap}
 use mathlib.Core.Logic.{_⊎_, inl, inr}
-use mathlib.Core.Bool.{Bool, true, false, not, cond, _&&_, _||_, true≢false, or-true}
+use mathlib.Core.Bool.{Bool, true, false, _&&_, _||_, true≢false, or-true}
 use Prim.Native.Nat.{ℕ, _≤_, _<_}
 use native.Mathlib.Omega.{arith}
-use lib.Dec.{leb, ltb, eqb}
+use lib.Dec.{ltb, eqb}
 use borrow.Author.Tests.{
   ltb-true,
   ltb-false,
@@ -37,6 +37,10 @@ pub ruleset tests = (
   eq-eqb,
   ne-eqb,
 )
+
+-- nothing is where 0 is 1: `impossible (cc)` where the hypotheses say that two constructors are equal
+pub impossible : {A : Type 0} → _≡_ {A = ℕ} 0 1 → A
+impossible z = absurd (omega arith)
 
 pub and-l : (a b : Bool) → a && b ≡ true → a ≡ true
 and-l true b e = refl

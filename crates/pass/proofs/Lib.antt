@@ -1,10 +1,3 @@
-pub mod Heads
-pub mod Walking
-pub mod Cursors
-pub mod Alongside
-pub mod Looking
-pub mod Renumbering
 pub mod Stages
 pub mod Sides
-pub mod Promises
-pub mod Examples
+pub mod Moving

@@ -1,4 +1,2 @@
-pub mod Head
-pub mod Walk
-pub mod Stages
-pub mod Promises
+pub mod Pair
+pub mod Outcome

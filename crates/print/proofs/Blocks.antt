@@ -1,40 +1,31 @@
--- What a block of bytes leaves, and what a line that ends leaves: text within the buffer, and counts within their bounds.
+-- Between two blocks there is room for the next, the counts stay within their bounds, and the bytes of a block are read.
 -- Assumes nothing.
-use mathlib.Core.Path.{_≡_, refl, sym, ap, _∙_}
-use mathlib.Core.List.{List}
-use Prim.Native.Nat.{ℕ, _+_, _*_, _≤_, _<_}
+use mathlib.Core.Path.{_≡_, ap}
+use mathlib.Core.List.{List, []}
+use Prim.Native.Nat.{ℕ, _+_, _≤_, _<_}
 use native.Mathlib.Omega.{arith}
-use lib.ListN.{length}
-use Rattle.console.specs.declared.feed.Feed.{Feed}
-use Rattle.console.specs.Input.{Reading, Took, Ended, Spacious}
-use Rattle.print.specs.Going.{Going, Sizes}
-
--- the text of a block ends within the buffer
-pub said-within : {f f′ : Feed} {i i′ : Reading} {K S M line out : List ℕ} (bs : List ℕ) → length bs ≤ 4096 →
-    Spacious 4096 f K S M line out → Took bs f i f′ i′ → f′ .at ≤ length out
-said-within bs h p w = omega (arith, w .said, p .inText)
-
--- and the reading goes on
-pub going-on : {f f′ : Feed} {i i′ : Reading} (bs : List ℕ) → length bs ≤ 4096 → Took bs f i f′ i′ →
-    Going (f .desk .lines + 4096) (record { desk = f′ .desk; kept = f′ .kept; at = 0 })
-going-on bs h w = record {
-  standing = w .standing;
-  short = w .short;
-  written = refl;
-  counted = omega (arith, w .counted);
-}
+use Rattle.feed.specs.declared.Feed.{Feed}
+use Rattle.feed.specs.Input.{Reading, bytesIn, readingOf, Took, Spacious}
+use Rattle.print.specs.Going.{Going, written, Block}
 
 -- there is room for n bytes more
-pub room-for : (n most : ℕ) (f : Feed) (K S M line block out : List ℕ) → n ≤ 4096 → most + n < 9223372036854775808 →
-    Going most f → Sizes K S M line block out → Spacious n f K S M line out
-room-for n most f K S M line block out h l g z = record {
-  roomy = record { standing = g .standing; inKeys = z .inKeys; inSources = z .inSources; inMasks = z .inMasks };
+pub room-for : (n most : ℕ) (f : Feed) → n ≤ 4096 → most + n < 9223372036854775808 → Going most f → Spacious n f
+room-for n most f h l g = record {
+  standing = g .standing;
   short = g .short;
-  inLine = z .inLine;
-  inText = omega (arith, z .inText, g .written);
+  inText = omega (arith, g .empty);
   countable = omega (arith, g .counted);
 }
 
 -- the counts bounded anew
-pub bounded : (most : ℕ) (f : Feed) {old : ℕ} → f .desk .lines ≤ most → Going old f → Going most f
-bounded most f h g = record { standing = g .standing; short = g .short; written = g .written; counted = h }
+pub bounded : (most : ℕ) (f : Feed) {old : ℕ} → f .counts .lines ≤ most → Going old f → Going most f
+bounded most f h g = record { standing = g .standing; short = g .short; empty = g .empty; counted = h }
+
+-- no bytes, and those of a block
+pub block-none : (f : Feed) (table layer line out : List ℕ) → f .at ≡ 0 →
+    Block (readingOf f table layer line out) (readingOf f table layer line out)
+unfolding bytesIn
+block-none f table layer line out e = record { bytes = []; same = rw (e) }
+
+pub block-taken : {bs : List ℕ} {f f′ : Feed} {i i′ : Reading} → Took bs f i f′ i′ → Block i (written i′)
+block-taken {bs} w = record { bytes = bs; same = ap written (w .same) }

@@ -1,21 +1,21 @@
--- Between two blocks: the counts are within their bounds, all that was said is written, and the buffers have their sizes.
+-- Between two blocks: the counts are within their bounds, all that was said is written, and the reading is that of the bytes.
 use mathlib.Core.Path.{_≡_}
-use mathlib.Core.List.{List}
+use mathlib.Core.List.{List, []}
 use Prim.Native.Nat.{ℕ, _≤_}
-use lib.ListN.{length}
-use Rattle.console.specs.declared.feed.Feed.{Feed}
+use Rattle.feed.specs.declared.Feed.{Feed}
+use Rattle.feed.specs.Input.{Reading, bytesIn}
 
 pub record Going (most : ℕ) (f : Feed) : Type 0 where
-  pub standing : f .desk .rows ≤ 512
+  pub standing : f .counts .rows ≤ 512
   pub short : f .kept ≤ 65
-  pub written : f .at ≡ 0
-  pub counted : f .desk .lines ≤ most
+  pub empty : f .at ≡ 0
+  pub counted : f .counts .lines ≤ most
 
--- the sizes of the lent buffers
-pub record Sizes (keys sources masks line block out : List ℕ) : Type 0 where
-  pub inKeys : length keys ≡ 512
-  pub inSources : length sources ≡ 512
-  pub inMasks : length masks ≡ 512
-  pub inLine : length line ≡ 65
-  pub inBlock : length block ≡ 4096
-  pub inText : length out ≡ 204800
+-- a reading of which all that was said is written
+abbrev pub written : Reading → Reading
+written i = record { counts = i .counts; sheet = i .sheet; line = i .line; text = [] }
+
+-- what a block leaves: its bytes were read, and what they say is written
+pub record Block (i i′ : Reading) : Type 0 where
+  pub bytes : List ℕ
+  pub same : i′ ≡ written (bytesIn bytes i)

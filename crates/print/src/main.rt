@@ -1,72 +1,69 @@
 // Reads lines from standard input, prints what they say as they are read, and the table at the end.
-use console::Desk;
-use console::Feed;
+use base::Counts;
+use feed::Feed;
 use libc::STDIN_FILENO;
 use libc::STDOUT_FILENO;
 ghost use mathlib.Core.Path.{_≡_};
 ghost use Prim.Native.Nat.{_+_, _≤_, _<_};
-ghost use lib.ListN.{length};
-ghost use Rattle.console.specs.Desk.{Roomy};
-ghost use Rattle.console.specs.Input.{Spacious};
-ghost use Rattle.console.specs.Shown.{Workspace};
-ghost use Rattle.print.specs.Going.{Going, Sizes};
+ghost use Rattle.text.specs.Text.{textRoom};
+ghost use Rattle.feed.specs.Input.{readingOf, Spacious};
+ghost use Rattle.print.specs.Going.{Going, Block};
 
 // Where the reading stands, and how many blocks may still be read.
-struct Turn {
-    feed: Feed,
+struct Taken {
+    fed: Feed,
     left: u64,
+}
+
+// Writes the first n bytes of the text.
+fn write_text(out: &[u8; 204800], n: usize)
+    requires { ⌜ n ≤ textRoom ⌝ }
+{
+    let text = &out[..];
+    io::write_all(STDOUT_FILENO, &text[..n]);
 }
 
 // Reads one block of those left, takes its bytes, and writes what they say. No block is left where the input ends.
 fn take_some(
     left: u64,
-    feed: Feed,
-    keys: &mut [u64],
-    sources: &mut [u64],
-    masks: &mut [u64],
-    layer: &mut [u64],
-    line: &mut [u8],
-    block: &mut [u8],
-    out: &mut [u8],
-) -> Turn
-    requires { ⌜ (0 < left) × Spacious 4096 feed (now keys) (now sources) (now masks) (now line) (now out) × (length (now block) ≡ 4096)
-        × (feed .at ≡ 0) ⌝ }
-    ensures { λ r. ⌜ (r .left < left) × Going (feed .desk .lines + 4096) (r .feed) ⌝ }
+    fed: Feed,
+    table: &mut [u64; 1536],
+    layer: &mut [u64; 2560],
+    line: &mut [u8; 65],
+    out: &mut [u8; 204800],
+) -> Taken
+    requires { ⌜ (0 < left) × Spacious 4096 fed × (fed .at ≡ 0) ⌝ }
+    ensures { λ r. ⌜ (r .left < left) × Going (fed .counts .lines + 4096) (r .fed)
+        × Block (readingOf fed (now (table .entry)) (now (layer .entry)) (now (line .entry)) (now (out .entry)))
+        (readingOf (r .fed) (now (table .exit)) (now (layer .exit)) (now (line .exit)) (now (out .exit))) ⌝ }
 {
-    let got = libc::read(STDIN_FILENO, block);
-    let n = io::count(got, block);
+    let mut block = [0u8; 4096];
+    let got = libc::read(STDIN_FILENO, &mut block);
+    let n = io::count(got, &block);
     if n == 0 {
-        return Turn { feed, left: 0 };
+        return Taken { fed, left: 0 };
     }
-    let fed = console::take_block(feed, &block[..n], keys, sources, masks, layer, line, out);
-    let desk = fed.desk;
-    let at = fed.at;
-    io::write_all(STDOUT_FILENO, &out[..at]);
-    Turn {
-        feed: Feed {
-            desk,
-            kept: fed.kept,
+    let next = feed::take_block(fed, &block[..n], table, layer, line, out);
+    let counts = next.counts;
+    write_text(out, next.at);
+    Taken {
+        fed: Feed {
+            counts,
+            kept: next.kept,
             at: 0,
         },
         left: left - 1,
     }
 }
 
-// Reads block after block, up to a number of blocks that no input has.
-fn read_all(
-    keys: &mut [u64],
-    sources: &mut [u64],
-    masks: &mut [u64],
-    layer: &mut [u64],
-    line: &mut [u8],
-    block: &mut [u8],
-    out: &mut [u8],
-) -> Feed
-    requires { ⌜ Sizes (now keys) (now sources) (now masks) (now line) (now block) (now out) ⌝ }
-    ensures { λ r. ⌜ Going 4611686018427387904 r ⌝ }
-{
-    let mut feed = Feed {
-        desk: Desk {
+// Reads block after block, up to a number of blocks that no input has, and prints the table.
+fn main() {
+    let mut table = [0u64; 1536];
+    let mut layer = [0u64; 2560];
+    let mut line = [0u8; 65];
+    let mut out = [0u8; 204800];
+    let mut fed = Feed {
+        counts: Counts {
             rows: 0,
             entries: 0,
             edited: false,
@@ -77,141 +74,13 @@ fn read_all(
     };
     let mut left: u64 = 1125899906842624;
     while 0 < left {
-        let turn = take_some(left, feed, keys, sources, masks, layer, line, block, out);
-        feed = turn.feed;
-        left = turn.left;
+        let taken = take_some(left, fed, &mut table, &mut layer, &mut line, &mut out);
+        fed = taken.fed;
+        left = taken.left;
     }
-    feed
-}
-
-// Ends the last line, which may lack its line feed.
-fn end_last(
-    feed: Feed,
-    keys: &mut [u64],
-    sources: &mut [u64],
-    masks: &mut [u64],
-    layer: &mut [u64],
-    line: &[u8],
-    out: &mut [u8],
-) -> Desk
-    requires { ⌜ Spacious 1 feed (now keys) (now sources) (now masks) (now line) (now out) ⌝ }
-    ensures { λ r. ⌜ r .rows ≤ 512 ⌝ }
-{
-    if feed.kept == 0 {
-        let desk = feed.desk;
-        return desk;
-    }
-    let ended = console::end_line(feed, keys, sources, masks, layer, line, out);
-    let at = ended.at;
-    io::write_all(STDOUT_FILENO, &out[..at]);
-    let desk = ended.desk;
-    desk
-}
-
-// Reads all lines.
-fn read_lines(
-    keys: &mut [u64],
-    sources: &mut [u64],
-    masks: &mut [u64],
-    layer: &mut [u64],
-    line: &mut [u8],
-    block: &mut [u8],
-    out: &mut [u8],
-) -> Desk
-    requires { ⌜ Sizes (now keys) (now sources) (now masks) (now line) (now block) (now out) ⌝ }
-    ensures { λ r. ⌜ r .rows ≤ 512 ⌝ }
-{
-    let feed = read_all(keys, sources, masks, layer, line, block, out);
-    end_last(feed, keys, sources, masks, layer, line, out)
-}
-
-// Prints the table.
-fn print_table(
-    desk: Desk,
-    keys: &[u64],
-    sources: &[u64],
-    masks: &[u64],
-    layer: &[u64],
-    groups: &mut [u64],
-    origins: &mut [u64],
-    ports: &mut [u64],
-    out: &mut [u8],
-)
-    requires { ⌜ Roomy desk (now keys) (now sources) (now masks)
-        × Workspace (now groups) (now origins) (now ports) (now out) ⌝ }
-{
-    let n = console::finish(
-        desk,
-        keys,
-        sources,
-        masks,
-        layer,
-        groups,
-        origins,
-        ports,
-        out,
-    );
+    let last = feed::end_input(fed, &mut table, &mut layer, &line, &mut out);
+    write_text(&out, last.at);
+    let counts = last.counts;
+    let n = show::finish(counts, &table, &layer, &mut out);
     io::write_all(STDOUT_FILENO, &out[..n]);
-}
-
-// Reads all lines, then prints the table.
-fn work(
-    keys: &mut [u64],
-    sources: &mut [u64],
-    masks: &mut [u64],
-    layer: &mut [u64],
-    line: &mut [u8],
-    block: &mut [u8],
-    groups: &mut [u64],
-    origins: &mut [u64],
-    ports: &mut [u64],
-    out: &mut [u8],
-)
-    requires { ⌜ Sizes (now keys) (now sources) (now masks) (now line) (now block) (now out)
-        × Workspace (now groups) (now origins) (now ports) (now out) ⌝ }
-{
-    let desk = read_lines(keys, sources, masks, layer, line, block, out);
-    print_table(
-        desk,
-        keys,
-        sources,
-        masks,
-        layer,
-        groups,
-        origins,
-        ports,
-        out,
-    );
-}
-
-// Zeros for the text of a block's messages, and of the table.
-fn text_buffer() -> [u8; 204800]
-    ensures { λ r. ⌜ 204800 ≡ length r ⌝ }
-{
-    [0; 204800]
-}
-
-fn main() {
-    let mut keys = [0u64; 512];
-    let mut sources = [0u64; 512];
-    let mut masks = [0u64; 512];
-    let mut layer = [0u64; 2560];
-    let mut line = [0u8; 65];
-    let mut block = [0u8; 4096];
-    let mut groups = [0u64; 1024];
-    let mut origins = [0u64; 1024];
-    let mut ports = [0u64; 1024];
-    let mut out = text_buffer();
-    work(
-        &mut keys,
-        &mut sources,
-        &mut masks,
-        &mut layer,
-        &mut line,
-        &mut block,
-        &mut groups,
-        &mut origins,
-        &mut ports,
-        &mut out,
-    );
 }

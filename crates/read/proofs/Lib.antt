@@ -4,6 +4,4 @@ pub mod Ready
 pub mod Writing
 pub mod Going
 pub mod Answers
-pub mod Shows
-pub mod Viewing
 pub mod Unique

@@ -37,9 +37,11 @@ runs-length j s xs (at p (change i e) ∷ L) r =
     by (eqb j i) refl (λ z. runs-length j (suc p) xs L z) (λ z. runs-length j s xs L z)
   where
     by : (b : Bool) → eqb j i ≡ b
-        → (Ready j (length xs) (suc p) L → length (runsFrom j (suc p) xs L) + suc p + count isStrike L ≡ length xs + count isAdd L)
+        → (Ready j (length xs) (suc p) L
+        → length (runsFrom j (suc p) xs L) + suc p + count isStrike L ≡ length xs + count isAdd L)
         → (Ready j (length xs) s L → length (runsFrom j s xs L) + s + count isStrike L ≡ length xs + count isAdd L)
-        → length (cond b (slice s p xs ++ (done e (getD xs p 0) ∷ runsFrom j (suc p) xs L)) (runsFrom j s xs L)) + s + (0 + count isStrike L)
+        → length (cond b (slice s p xs ++ (done e (getD xs p 0) ∷ runsFrom j (suc p) xs L)) (runsFrom j s xs L)) + s
+        + (0 + count isStrike L)
         ≡ length xs + (0 + count isAdd L)
     by true h f g =
         let r′ = r .0 h in
@@ -52,6 +54,6 @@ pub rows-shown : (j : ℕ) (xs : List ℕ) (L : Layer) → Ready j (length xs) 0
 rows-shown j xs L r = omega (arith, ap length (same j xs L r), runs-length j 0 xs L r)
 
 -- of a layer that keeps form: each edit sound, any two in order
-pub rows-formed : (c j : ℕ) (xs : List ℕ) (L : Layer) → ((e : Edit) → Mem e L → sound c (length xs) e ≡ true) → AllPairs follows L
-    → length (readColumn j xs L) ≡ rowsAfter (length xs) L
+pub rows-formed : (c j : ℕ) (xs : List ℕ) (L : Layer) → ((e : Edit) → Mem e L → sound c (length xs) e ≡ true)
+    → AllPairs follows L → length (readColumn j xs L) ≡ rowsAfter (length xs) L
 rows-formed c j xs L a f = rows-shown j xs L (ready c (length xs) j L a f)

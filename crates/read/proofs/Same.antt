@@ -132,7 +132,8 @@ run-then : (j : ℕ) (xs : List ℕ) (L : Layer) (s p : ℕ) (ys : List ℕ) →
 run-then j xs L s p ys h k l q =
     let e : s + (p - s) ≡ p = omega arith in
     let r = run j xs L (p - s) s (subst (λ (t : ℕ). Later j t L) (sym e) l) (omega arith) in
-    sym (r ∙ ap (λ (t : ℕ). slice s t xs ++ readColumnFrom j t (drop t xs) L) e ∙ ap (λ (zs : List ℕ). slice s p xs ++ zs) q)
+    sym (r ∙ ap (λ (t : ℕ). slice s t xs ++ readColumnFrom j t (drop t xs) L) e
+    ∙ ap (λ (zs : List ℕ). slice s p xs ++ zs) q)
 
 bare : (j s : ℕ) (xs : List ℕ) → readColumnFrom j s xs [] ≡ xs
 bare j s [] = refl
@@ -184,7 +185,8 @@ same-from j s xs (at p (change i e) ∷ L) r =
     by true h f g =
         let r′ = r .0 h in
         let l = ready-later j (length xs) (suc p) L (r′ .2) in
-        run-then j xs (at p (change i e) ∷ L) s p (done e (getD xs p 0) ∷ runsFrom j (suc p) xs L) (r′ .0) (omega (arith, r′ .1))
+        run-then j xs (at p (change i e) ∷ L) s p (done e (getD xs p 0) ∷ runsFrom j (suc p) xs L) (r′ .0)
+        (omega (arith, r′ .1))
         (λ w. omega arith, later-less j p (suc p) L (omega arith) l)
         (at-change j p L i e xs h (r′ .1) l ∙ rw (f (r′ .2)))
     by false h f g = g (r .1 h) ∙ sym (without j (at p (change i e)) L s (drop s xs) (λ q z. silent-other j q p i e h))

@@ -1,19 +1,15 @@
 -- A column as a reader of entries meets it: the run of base rows before an entry, then what the entry shows.
 use mathlib.Core.Path.{_≡_}
 use mathlib.Core.Bool.{true, false, cond}
-use mathlib.Core.List.{List, [], _∷_, _++_, map}
-use Prim.Native.Nat.{ℕ, suc, _+_, _-_, _≤_, _<_}
+use mathlib.Core.List.{List, [], _∷_, _++_}
+use Prim.Native.Nat.{ℕ, suc, _+_, _≤_, _<_}
 use lib.ListN.{length, getD, drop}
 use lib.Seq.{slice, paste}
 use lib.Dec.{eqb}
 use Rattle.model.specs.Row.{cell}
 use Rattle.model.specs.Cell.{done}
 use Rattle.model.specs.Layer.{add, strike, change, at, Layer, rowsAfter}
-use Rattle.model.specs.Raw.{Held, entriesAt, editOf, layerOf}
-
--- the edits from entry i of m on, which stands from `from`
-abbrev pub editsFrom : ℕ → ℕ → ℕ → ℕ → List ℕ → Layer
-editsFrom c m i from raw = map editOf (entriesAt c (m - i) from raw)
+use Rattle.model.specs.Raw.{Held, layerOf}
 
 -- column j from base row s on; a change of another column does not end the run
 unfoldable pub runsFrom : ℕ → ℕ → List ℕ → Layer → List ℕ

@@ -1,16 +1,31 @@
 -- The numbers of a slice whose tail is moved and into whose gap an entry is written; what fits its room.
 -- Assumes nothing.
-use Prim.Native.Nat.{ℕ, zero, suc, _+_, _*_, _-_, _≤_, _<_, _/_}
-use native.Mathlib.Nat.{suc-mul, mul-le-mul-right, min-le-left, min-le-right, le-min, le-div-iff-mul-le}
+use Prim.Native.Nat.{ℕ, suc, _+_, _*_, _-_, _≤_, _<_, _/_}
+use native.Mathlib.Nat.{
+  add-zero,
+  zero-mul,
+  suc-mul,
+  add-mul,
+  mul-comm,
+  mul-sub,
+  mul-le-mul-right,
+  min-le-left,
+  min-le-right,
+  le-min,
+  le-div-iff-mul-le,
+}
 use native.Mathlib.Omega.{arith}
 use mathlib.Core.Path.{_≡_, refl, sym, ap, _∙_}
+use mathlib.Core.Bool.{Bool, true, false}
 use mathlib.Core.List.{List, _++_, append-assoc}
 use lib.ListN.{length, take, drop, set, replicate, length-append, length-drop, length-replicate, take-append-drop}
 use lib.Seq.{paste, paste-zero, length-take-le, drop-at, drop-drop, take-append-le, take-take, take-all}
+use lib.Dec.{leb}
+use borrow.Author.Tests.{leb-true, leb-false}
 use Rattle.run.proofs.Laws.{copy-more, paste-paste}
 use Rattle.model.specs.declared.Entry.{Entry}
 use Rattle.model.specs.Raw.{Held, room}
-use Rattle.write.specs.Replaced.{entryNumbers, movedTail}
+use Rattle.write.specs.Splice.{entryNumbers, movedTail, coming}
 
 -- a run with zeros behind it, taken whole
 behind-run : (n k : ℕ) (s : List ℕ) → n ≤ length s → take (n + k) (take n s ++ replicate k 0) ≡ take n s ++ replicate
@@ -105,20 +120,52 @@ spans c m i k xs H h = record {
   few = omega (arith, mul-le-mul-right {m = m} (c + 2) (H .entries), H .columns);
 }
 
--- where there is room for the entries that are left and one more: for the one in front of the tail, and for the tail
--- behind it
-pub one-more : (w m i k len : ℕ) → i + k ≤ m → m * w ≤ len → (m + 1 - k) * w ≤ len
-    → (i * w + w ≤ len) × (m * w + (i * w + w - (i + k) * w) ≤ len)
-one-more w m i k len h a r =
-    let n : suc i * w ≤ (m + 1 - k) * w = mul-le-mul-right {m = suc i} w (omega arith) in
-    (omega (arith, suc-mul i w), tail k refl)
-  where
-    tail : (l : ℕ) → k ≡ l → m * w + (i * w + w - (i + k) * w) ≤ len
-    tail zero e =
-        let f : m + 1 - k ≡ suc m = omega arith in
-        let g : i + k ≡ i = omega arith in
-        rw g (omega (arith, suc-mul m w, ap (λ (n : ℕ). n * w) f))
-    tail (suc l) e = omega (arith, suc-mul i w, mul-le-mul-right {m = suc i} {n = i + k} w (omega arith))
+pub sub-mul : (a b w : ℕ) → (a - b) * w ≡ a * w - b * w
+sub-mul a b w = mul-comm (a - b) w ∙ (mul-sub w a b ∙ (λ i. mul-comm w a i - mul-comm w b i))
+
+-- Entries i to i + gone of m go, others come, and there is room for the result: for the tail behind them, and for one
+-- entry that comes in front of it.
+module _ (w m i gone comes len : ℕ) (h : i + gone ≤ m) (a : m * w ≤ len) (r : (m + comes - gone) * w ≤ len) where
+  pub tail-fits : m * w + (i * w + comes * w - (i + gone) * w) ≤ len
+  tail-fits =
+      omega (
+        arith,
+        add-mul m ((i + comes) - (i + gone)) w,
+        sub-mul (i + comes) (i + gone) w,
+        add-mul i comes w,
+        by (leb gone comes) refl,
+      )
+    where
+      by : (t : Bool) → leb gone comes ≡ t → (m + ((i + comes) - (i + gone))) * w ≤ len
+      by true e =
+          let l = leb-true gone comes e in
+          let f : m + ((i + comes) - (i + gone)) ≡ m + comes - gone = omega arith in
+          rw f r
+      by false e =
+          let l = leb-false gone comes e in
+          let f : m + ((i + comes) - (i + gone)) ≡ m = omega arith in
+          rw f a
+
+  pub one-fits : comes ≡ 1 → i * w + w ≤ len
+  one-fits e = omega (arith, suc-mul i w, mul-le-mul-right {m = suc i} {n = m + comes - gone} w (omega arith))
+
+-- the numbers of a splice: none come behind the front, or new ones written in front of the moved tail
+module _ (xs new : List ℕ) (at w from end comes : ℕ) where
+  abbrev front : List ℕ
+  front = take (at + comes * w) xs ++ movedTail (at + comes * w) from end xs
+
+  abbrev result : List ℕ
+  result = take at xs ++ (coming comes new ++ movedTail (at + length (coming comes new)) from end xs)
+
+  pub none-come : comes ≡ 0 → front ≡ result
+  none-come e =
+      let z : 0 * w ≡ 0 = zero-mul w in
+      rw (e, z, add-zero)
+
+  pub one-comes : comes ≡ 1 → length new ≡ w → at + w ≤ length xs → paste front at new w ≡ result
+  one-comes e l r =
+      let o : 1 * w ≡ w = omega arith in
+      rw (e, o, l) (fill-gap xs new (movedTail (at + w) from end xs) at w r l)
 
 -- the room: entries that fit it fit the slice
 pub in-room : (c len k : ℕ) → k ≤ room c len → (k ≤ 512) × (k * (c + 2) ≤ len)

@@ -1,7 +1,7 @@
 -- A layer's slice with entries replaced is the new layer, zeros where entries were freed, then what stood there before.
 -- Assumes nothing.
 use Prim.Native.Nat.{ℕ, zero, suc, _+_, _*_, _-_, _≤_, _<_, max}
-use native.Mathlib.Nat.{zero-add, suc-add, sub-self, zero-mul, suc-mul, add-mul, mul-le-mul-right, mul-comm, mul-sub}
+use native.Mathlib.Nat.{zero-add, suc-add, sub-self, zero-mul, suc-mul, add-mul, mul-le-mul-right}
 use native.Mathlib.Omega.{arith}
 use mathlib.Core.Path.{_≡_, refl, sym, ap, _∙_}
 use mathlib.Core.List.{
@@ -10,9 +10,12 @@ use mathlib.Core.List.{
   _∷_,
   _++_,
   append-assoc,
+  append-nil,
   List·Memᴰ as Mem,
   List·Memᴰ·head as here,
   List·Memᴰ·tail as next,
+  List·Memᴰ·not-nil as not-nil,
+  List·Memᴰ·eq-of-singleton as eq-of-singleton,
 }
 use lib.ListN.{length, take, drop, set, replicate, length-append, length-drop, take-append-drop}
 use lib.Seq.{length-take-le, take-at, drop-at, take-take, set-append-left}
@@ -20,15 +23,29 @@ use Rattle.order.specs.Lists.{gather}
 use Rattle.order.proofs.Ascending.{At, at-length}
 use Rattle.order.proofs.Edited.{at-head, at-tail, at-none}
 use Rattle.order.proofs.Splice.{take-mem, part}
-use Rattle.model.specs.declared.Answer.the-variants.{Done}
+use Rattle.model.specs.declared.Answer.{Answer}
+use Rattle.model.specs.declared.Answer.the-variants.{Done, Refused}
 use Rattle.model.specs.Row.{Row}
 use Rattle.model.specs.Cell.{to, put}
 use Rattle.model.specs.Layer.{Edit, at, add, strike, change, Layer}
 use Rattle.model.specs.Raw.{numbersOf, flat, strikeEntry, changeEntry}
 use Rattle.model.specs.Edits.{changeAdded}
+use Rattle.model.specs.Refusals.{firstMet, noRoom}
 use Rattle.model.specs.Calls.{edited}
 pub use Rattle.model.proofs.Readback.{sound-wide}
-use Rattle.write.specs.Replaced.{entryNumbers, movedTail, replaced}
+use Rattle.write.specs.declared.Splice.{Splice}
+use Rattle.write.specs.Splice.{
+  entryNumbers,
+  movedTail,
+  replaced,
+  coming,
+  spliced,
+  countAfter,
+  enterAnswer,
+  ifDone,
+}
+use Rattle.write.specs.Plans.{Plans, OneSplice}
+use Rattle.write.proofs.Laws.{sub-mul}
 
 -- the new entry's numbers are those of its edit
 first-then : (c v : ℕ) → 1 ≤ c → c ≤ 8 → take c (v ∷ replicate 7 0) ≡ v ∷ replicate (c - 1) 0
@@ -72,8 +89,20 @@ flat-length c (e ∷ L) w =
       suc-mul (length L) (c + 2),
     )
 
-sub-mul : (a b w : ℕ) → (a - b) * w ≡ a * w - b * w
-sub-mul a b w = mul-comm (a - b) w ∙ (mul-sub w a b ∙ (λ i. mul-comm w a i - mul-comm w b i))
+-- a plan is one splice
+comes-few : {A : Type 0} (x : A) (k : ℕ) → k ≤ 1 → length (coming k (x ∷ [])) ≡ k
+comes-few x zero h = refl
+comes-few x (suc k) h = omega arith
+
+pub plan-splice : {c : ℕ} {L M : Layer} {p : Splice} → Plans c L M p → OneSplice L M
+plan-splice {p = p} P = record {
+  i = p .i;
+  gone = p .gone;
+  new = coming (p .comes) (P .edit ∷ []);
+  few = omega (arith, comes-few (P .edit) (p .comes) (P .few), P .few);
+  within = P .within;
+  leads = P .leads;
+}
 
 -- a layer of m entries as it is written in a slice
 pub record Written (c m : ℕ) (raw : List ℕ) (L : Layer) : Type 0 where
@@ -106,11 +135,11 @@ module _ (c m : ℕ) (raw : List ℕ) (L : Layer) (W : Written c m raw L) where
 
   -- the k entries from number i on replaced by those of N
   module _ (i k : ℕ) (h : i + k ≤ m) (N : Layer) (v : Wide c N) where
-    abbrev spliced : Layer
-    spliced = take i L ++ (N ++ drop (i + k) L)
+    abbrev result : Layer
+    result = take i L ++ (N ++ drop (i + k) L)
 
-    pub spliced-length : length spliced + k ≡ m + length N
-    spliced-length =
+    result-length : length result + k ≡ m + length N
+    result-length =
         omega (
           arith,
           length-append (take i L) (N ++ drop (i + k) L),
@@ -120,14 +149,14 @@ module _ (c m : ℕ) (raw : List ℕ) (L : Layer) (W : Written c m raw L) where
           W .size,
         )
 
-    flat-spliced : flat c spliced ≡ flat c (take i L) ++ (flat c N ++ flat c (drop (i + k) L))
-    flat-spliced =
+    flat-result : flat c result ≡ flat c (take i L) ++ (flat c N ++ flat c (drop (i + k) L))
+    flat-result =
         flat-append c (take i L) (N ++ drop (i + k) L) ∙ ap (λ (t : List ℕ). flat c (take i L) ++ t)
         (flat-append c N (drop (i + k) L))
 
-    freed : (i + k) * (c + 2) - (i * (c + 2) + length (flat c N)) ≡ (m - length spliced) * (c + 2)
+    freed : (i + k) * (c + 2) - (i * (c + 2) + length (flat c N)) ≡ (m - length result) * (c + 2)
     freed =
-        let p : (i + k) - (i + length N) ≡ m - length spliced = omega (arith, spliced-length) in
+        let p : (i + k) - (i + length N) ≡ m - length result = omega (arith, result-length) in
         omega (
           arith,
           flat-length c N v,
@@ -136,9 +165,9 @@ module _ (c m : ℕ) (raw : List ℕ) (L : Layer) (W : Written c m raw L) where
           ap (λ (n : ℕ). n * (c + 2)) p,
         )
 
-    kept : m * (c + 2) + (i * (c + 2) + length (flat c N) - (i + k) * (c + 2)) ≡ max m (length spliced) * (c + 2)
+    kept : m * (c + 2) + (i * (c + 2) + length (flat c N) - (i + k) * (c + 2)) ≡ max m (length result) * (c + 2)
     kept =
-        let p : m + ((i + length N) - (i + k)) ≡ max m (length spliced) = omega (arith, spliced-length) in
+        let p : m + ((i + length N) - (i + k)) ≡ max m (length result) = omega (arith, result-length) in
         omega (
           arith,
           flat-length c N v,
@@ -148,11 +177,44 @@ module _ (c m : ℕ) (raw : List ℕ) (L : Layer) (W : Written c m raw L) where
           ap (λ (n : ℕ). n * (c + 2)) p,
         )
 
-    pub replaced-edited : (x : ℕ) → replaced c m i k (flat c N) raw ≡ edited c m (Done x) spliced raw
+    replaced-edited : (x : ℕ) → replaced c m i k (flat c N) raw ≡ edited c m (Done x) result raw
     unfolding replaced movedTail
     replaced-edited x =
-        rw (front i (omega arith), back (i + k) h, freed, kept, flat-spliced)
+        rw (front i (omega arith), back (i + k) h, freed, kept, flat-result)
         (simp append-assoc)
+
+  -- A splice that leads from the layer to M leaves M in the slice, and answers what is left of a call for M.
+  module _ {M : Layer} {p : Splice} (P : Plans c L M p) where
+    comes-wide : (k : ℕ) → Wide c (coming k (P .edit ∷ []))
+    comes-wide zero e n = absurd (not-nil n)
+    comes-wide (suc k) e n = ap (λ (x : Edit). length (numbersOf c x)) (eq-of-singleton n) ∙ P .wide
+
+    comes-flat : (k : ℕ) → coming k (entryNumbers c (p .entry)) ≡ flat c (coming k (P .edit ∷ []))
+    unfolding flat
+    comes-flat zero = refl
+    comes-flat (suc k) = P .numbers ∙ sym (append-nil (numbersOf c (P .edit)))
+
+    inside : p .i + p .gone ≤ m
+    inside = omega (arith, P .within, W .size)
+
+    pub plan-count : countAfter m p ≡ length M
+    plan-count =
+        omega (
+          arith,
+          ap length (P .leads),
+          result-length (p .i) (p .gone) inside (coming (p .comes) (P .edit ∷ [])) (comes-wide (p .comes)),
+          comes-few (P .edit) (p .comes) (P .few),
+        )
+
+    pub plan-answer : enterAnswer c m p (length raw) ≡ firstMet Refused (noRoom c (length raw) M ∷ []) (Done (length M))
+    plan-answer = rw plan-count
+
+    pub plan-edited : (r : Answer) → ifDone r (spliced c m p raw) raw ≡ edited c m r M raw
+    plan-edited (Done x) =
+        ap (λ (t : List ℕ). replaced c m (p .i) (p .gone) t raw) (comes-flat (p .comes))
+        ∙ (replaced-edited (p .i) (p .gone) inside (coming (p .comes) (P .edit ∷ [])) (comes-wide (p .comes)) x
+        ∙ ap (λ (t : Layer). edited c m (Done x) t raw) (sym (P .leads)))
+    plan-edited (Refused x) = refl
 
 -- Value j of an added row set: one number.
 set-past : (xs ys : List ℕ) (n v : ℕ) → set (xs ++ ys) (length xs + n) v ≡ xs ++ set ys n v

@@ -1,12 +1,13 @@
 // Edits written into a layer's slice: entries replaced by one entry or by none, the tail behind them moved once.
+use model::Answer;
 use model::Entry;
 ghost use mathlib.Core.Path.{_≡_};
-ghost use mathlib.Core.List.{[], _++_};
+ghost use mathlib.Core.List.{_++_};
 ghost use Prim.Native.Nat.{_+_, _-_, _*_, _≤_, _<_};
 ghost use lib.ListN.{length, take, set};
 ghost use lib.Seq.{paste};
 ghost use Rattle.model.specs.Raw.{Held, room};
-ghost use Rattle.write.specs.Replaced.{entryNumbers, movedTail, replaced};
+ghost use Rattle.write.specs.Splice.{entryNumbers, movedTail, spliced, enterAnswer, ifDone};
 
 // The room of a slice of len numbers: the smaller of 512 and the whole entries that it can hold.
 pub fn room_of(c: usize, len: usize) -> usize
@@ -47,29 +48,40 @@ fn store(c: usize, e: Entry, at: usize, layer: &mut [u64])
     run::copy_in(&vals[..c], layer, at + 2);
 }
 
-// Replaces the k entries from number i on by the entry e.
-pub fn replace(c: usize, m: usize, i: usize, k: usize, e: Entry, layer: &mut [u64])
-    requires { ⌜ Held c m (now layer) × (i + k ≤ m) × ((m + 1 - k) * (c + 2) ≤ length (now layer)) ⌝ }
-    ensures { λ _. ⌜ now (layer .exit) ≡ replaced c m i k (entryNumbers c e) (now (layer .entry)) ⌝ }
-{
-    let w = c + 2;
-    let at = i * w;
-    let from = (i + k) * w;
-    let end = m * w;
-    move_tail(at + w, from, end, layer);
-    store(c, e, at, layer);
+// A splice: where it begins (entry number i), how many entries go, and the entry that comes, if `comes` is 1.
+pub struct Splice {
+    pub i: usize,
+    pub gone: usize,
+    pub comes: usize,
+    pub entry: Entry,
 }
 
-// Takes the k entries from number i on out.
-pub fn remove(c: usize, m: usize, i: usize, k: usize, layer: &mut [u64])
-    requires { ⌜ Held c m (now layer) × (i + k ≤ m) ⌝ }
-    ensures { λ _. ⌜ now (layer .exit) ≡ replaced c m i k [] (now (layer .entry)) ⌝ }
+// Enters a splice into a layer of m entries, where the slice has room for the result. Answers refusal 9, or how many
+// entries there are then.
+pub fn enter(c: usize, m: usize, p: Splice, layer: &mut [u64]) -> Answer
+    requires { ⌜ Held c m (now layer) × (p .i + p .gone ≤ m) × (p .comes ≤ 1) ⌝ }
+    ensures { λ r. ⌜ (r ≡ enterAnswer c m p (length (now (layer .entry))))
+        × (now (layer .exit) ≡ ifDone r (spliced c m p (now (layer .entry))) (now (layer .entry))) ⌝ }
 {
+    let i = p.i;
+    let gone = p.gone;
+    let comes = p.comes;
+    let e = p.entry;
+    let count = m + comes - gone;
+    if room_of(c, layer.len()) < count {
+        return Answer::refused(9, 0);
+    }
     let w = c + 2;
     let at = i * w;
-    let from = (i + k) * w;
+    let from = (i + gone) * w;
     let end = m * w;
-    move_tail(at, from, end, layer);
+    let to = at + comes * w;
+    move_tail(to, from, end, layer);
+    if comes == 0 {
+        return Answer::Done(count);
+    }
+    store(c, e, at, layer);
+    Answer::Done(count)
 }
 
 // Sets value j of entry number i.

@@ -2,7 +2,7 @@
 //! Both run in turn on the same warmed buffers; a time is the median of the repetitions.
 
 use harness::calls::{Calls, CARD, PLAIN};
-use harness::paper::{self, Entry, Pair};
+use harness::scope::{self, Entry, Pair};
 use std::hint::black_box;
 use std::time::Instant;
 
@@ -97,7 +97,7 @@ fn spread(c: usize, keys: &[u64], m: usize, from: usize) -> Vec<Entry> {
             match i % 3 {
                 0 => {
                     vals[0] = keys[s];
-                    Entry { pos: s as u64, kind: paper::STRIKE, vals }
+                    Entry { pos: s as u64, kind: scope::STRIKE, vals }
                 }
                 1 => {
                     vals[0] = 77;
@@ -106,7 +106,7 @@ fn spread(c: usize, keys: &[u64], m: usize, from: usize) -> Vec<Entry> {
                 _ => {
                     vals.fill(9);
                     vals[0] = keys[s] - 1;
-                    Entry { pos: s as u64, kind: paper::ADD, vals }
+                    Entry { pos: s as u64, kind: scope::ADD, vals }
                 }
             }
         })
@@ -114,7 +114,7 @@ fn spread(c: usize, keys: &[u64], m: usize, from: usize) -> Vec<Entry> {
 }
 
 fn padded(c: usize, layer: &[Entry]) -> Vec<u64> {
-    let mut raw = paper::numbers(layer);
+    let mut raw = scope::numbers(layer);
     raw.resize(512 * (c + 2), 0);
     raw
 }
@@ -127,7 +127,7 @@ fn all(clock: &Clock, c: usize, n: usize, m: usize) -> Vec<(f64, f64)> {
     let k = &keys(n)[..];
     let x = &padded(c, &spread(c, k, m, 0))[..];
     let y = &padded(c, &spread(c, k, m, 1))[..];
-    let rows = paper::rows_after(n, &spread(c, k, m, 0));
+    let rows = scope::rows_after(n, &spread(c, k, m, 0));
     let base: &[u64] = &(0..n as u64).collect::<Vec<_>>();
     let out = vec![0; n + m];
     let none: &[u64] = &[];
@@ -142,7 +142,7 @@ fn all(clock: &Clock, c: usize, n: usize, m: usize) -> Vec<(f64, f64)> {
     let r = CARD.row(c, n, few, l, quiet).1 as usize;
 
     let lower = spread(c, k, m / 2, 0);
-    let between = paper::column(&lower, k, 0);
+    let between = scope::column(&lower, k, 0);
     let upper = spread(c, &between, m / 2, 2);
     let (lo, up) = (&padded(c, &lower)[..], &padded(c, &upper)[..]);
     let third = vec![0; 512 * (c + 2)];
@@ -169,7 +169,7 @@ fn beside(clock: &Clock, c: usize, n: usize, m: usize) -> (f64, f64, f64) {
     let raw = padded(c, &layer);
     let base: Vec<u64> = (0..n as u64).collect();
     let pick = |kind: u64, j: usize| layer.iter().filter(|e| e.kind == kind).map(|e| e.vals[j]).collect::<Vec<u64>>();
-    let (added, value, gone) = (pick(paper::ADD, 0), pick(paper::ADD, 1), pick(paper::STRIKE, 0));
+    let (added, value, gone) = (pick(scope::ADD, 0), pick(scope::ADD, 1), pick(scope::STRIKE, 0));
     let (mut a, mut b, mut d) = (vec![0; n + m], vec![0; n], vec![0; n + m]);
     let t = clock.medians(
         4,

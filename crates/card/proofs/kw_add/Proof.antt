@@ -2,9 +2,7 @@
 -- Assumes nothing.
 use borrow.Author.Needs.{needs}
 use mathlib.Core.Path.{_∙_, ap}
-use Rattle.model.specs.declared.Answer.{Answer}
 use Rattle.model.specs.Answer.{numberOf, valueOf}
-use Rattle.model.specs.Calls.{edited, addedLayer}
 use Rattle.card.proofs.kw_add.Statement.{statement}
 use Rattle.card.proofs.kw_add.Tie as tie
 
@@ -20,12 +18,7 @@ same-length c = search needs
 returns : tie.Need-returns
 returns c =
     let f = c .before .before .before .add .ensures in
-    let a = c .before .before .before .before .before .before .before .before .args in (
-      (c .tell .ensures .0 ∙ ap numberOf (f .0), c .tell .ensures .1 ∙ ap valueOf (f .0)),
-      f .1
-          ∙ ap (λ (r : Answer). edited (a .c) (a .m) r (addedLayer (a .c) (a .m) (a .layer .now) (a .keys .now) (a .row .now))
-          (a .layer .now)) (f .0),
-    )
+    ((c .tell .ensures .0 ∙ ap numberOf (f .0), c .tell .ensures .1 ∙ ap valueOf (f .0)), f .1)
 
 pub kw-add-spec : {M : Type 1} → statement M
 kw-add-spec = tie.close (tie.spec add-requires tell-requires same-length returns)

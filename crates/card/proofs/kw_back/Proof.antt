@@ -1,4 +1,4 @@
--- `card::kw_back` meets its contract: the two numbers are those of `place::back`'s answer, and an added entry's number is small.
+-- `card::kw_back` meets its contract: the two numbers are those of `position::back`'s answer, and an added entry's number is small.
 -- Assumes nothing.
 use borrow.Author.Needs.{needs}
 use mathlib.Core.Path.{sym, ap, _∙_}

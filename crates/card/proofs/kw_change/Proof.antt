@@ -2,9 +2,7 @@
 -- Assumes nothing.
 use borrow.Author.Needs.{needs}
 use mathlib.Core.Path.{_∙_, ap}
-use Rattle.model.specs.declared.Answer.{Answer}
 use Rattle.model.specs.Answer.{numberOf, valueOf}
-use Rattle.model.specs.Calls.{edited, changedLayer}
 use Rattle.card.proofs.kw_change.Statement.{statement}
 use Rattle.card.proofs.kw_change.Tie as tie
 
@@ -20,10 +18,7 @@ same-length c = search needs
 returns : tie.Need-returns
 returns c =
     let f = c .before .before .before .change .ensures in
-    let a = c .before .before .before .before .before .before .before .args in (
-      (c .tell .ensures .0 ∙ ap numberOf (f .0), c .tell .ensures .1 ∙ ap valueOf (f .0)),
-      f .1 ∙ ap (λ (r : Answer). edited (a .c) (a .m) r (changedLayer (a .c) (a .m) (a .layer .now) (a .keys .now) (a .r) (a .j) (a .v)) (a .layer .now)) (f .0),
-    )
+    ((c .tell .ensures .0 ∙ ap numberOf (f .0), c .tell .ensures .1 ∙ ap valueOf (f .0)), f .1)
 
 pub kw-change-spec : {M : Type 1} → statement M
 kw-change-spec = tie.close (tie.spec change-requires tell-requires same-length returns)

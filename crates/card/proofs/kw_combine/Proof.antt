@@ -2,10 +2,7 @@
 -- Assumes nothing.
 use borrow.Author.Needs.{needs}
 use mathlib.Core.Path.{_∙_, ap}
-use Rattle.model.specs.declared.Answer.{Answer}
 use Rattle.model.specs.Answer.{numberOf, valueOf}
-use Rattle.model.specs.Raw.{flat}
-use Rattle.model.specs.Calls.{written, combinedLayer}
 use Rattle.card.proofs.kw_combine.Statement.{statement}
 use Rattle.card.proofs.kw_combine.Tie as tie
 
@@ -21,12 +18,7 @@ same-length c = search needs
 returns : tie.Need-returns
 returns c =
     let f = c .before .before .before .combine .ensures in
-    let a = c .before .before .before .before .before .before .before .before .before .args in (
-      (c .tell .ensures .0 ∙ ap numberOf (f .0), c .tell .ensures .1 ∙ ap valueOf (f .0)),
-      f .1
-          ∙ ap (λ (r : Answer). written r
-          (flat (a .c) (combinedLayer (a .c) (a .keys .now) (a .mr) (a .r .now) (a .mw) (a .w .now))) (a .out .now)) (f .0),
-    )
+    ((c .tell .ensures .0 ∙ ap numberOf (f .0), c .tell .ensures .1 ∙ ap valueOf (f .0)), f .1)
 
 pub kw-combine-spec : {M : Type 1} → statement M
 kw-combine-spec = tie.close (tie.spec combine-requires tell-requires same-length returns)

@@ -1,4 +1,4 @@
--- `card::kw_fit` meets its contract: the two numbers are those of `form::fit`'s answer.
+-- `card::kw_fit` meets its contract: the two numbers are those of `fit::fit`'s answer.
 -- Assumes nothing.
 use borrow.Author.Needs.{needs}
 use mathlib.Core.Path.{ap, _∙_}

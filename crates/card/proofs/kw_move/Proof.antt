@@ -2,10 +2,7 @@
 -- Assumes nothing.
 use borrow.Author.Needs.{needs}
 use mathlib.Core.Path.{_∙_, ap}
-use Rattle.model.specs.declared.Answer.{Answer}
 use Rattle.model.specs.Answer.{numberOf, valueOf}
-use Rattle.model.specs.Raw.{flat}
-use Rattle.model.specs.Calls.{written, movedLayer}
 use Rattle.card.proofs.kw_move.Statement.{statement}
 use Rattle.card.proofs.kw_move.Tie as tie
 
@@ -21,10 +18,7 @@ same-length c = search needs
 returns : tie.Need-returns
 returns c =
     let f = c .before .before .before .move-past .ensures in
-    let a = c .before .before .before .before .before .before .before .before .args in (
-      (c .tell .ensures .0 ∙ ap numberOf (f .0), c .tell .ensures .1 ∙ ap valueOf (f .0)),
-      f .1 ∙ ap (λ (r : Answer). written r (flat (a .c) (movedLayer (a .c) (a .mx) (a .x .now) (a .my) (a .y .now))) (a .x .now)) (f .0),
-    )
+    ((c .tell .ensures .0 ∙ ap numberOf (f .0), c .tell .ensures .1 ∙ ap valueOf (f .0)), f .1)
 
 pub kw-move-spec : {M : Type 1} → statement M
 kw-move-spec = tie.close (tie.spec move-past-requires tell-requires same-length returns)

@@ -2,9 +2,7 @@
 -- Assumes nothing.
 use borrow.Author.Needs.{needs}
 use mathlib.Core.Path.{_∙_, ap}
-use Rattle.model.specs.declared.Answer.{Answer}
 use Rattle.model.specs.Answer.{numberOf, valueOf}
-use Rattle.model.specs.Calls.{shownColumn, written}
 use Rattle.card.proofs.kw_read.Statement.{statement}
 use Rattle.card.proofs.kw_read.Tie as tie
 
@@ -20,11 +18,7 @@ same-length c = search needs
 returns : tie.Need-returns
 returns c =
     let f = c .before .before .before .read .ensures in
-    let a = c .before .before .before .before .before .before .before .before .args in (
-      (c .tell .ensures .0 ∙ ap numberOf (f .0), c .tell .ensures .1 ∙ ap valueOf (f .0)),
-      f .1
-          ∙ ap (λ (r : Answer). written r (shownColumn (a .c) (a .m) (a .layer .now) (a .base .now) (a .j)) (a .out .now)) (f .0),
-    )
+    ((c .tell .ensures .0 ∙ ap numberOf (f .0), c .tell .ensures .1 ∙ ap valueOf (f .0)), f .1)
 
 pub kw-read-spec : {M : Type 1} → statement M
 kw-read-spec = tie.close (tie.spec read-requires tell-requires same-length returns)

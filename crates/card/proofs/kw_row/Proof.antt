@@ -1,4 +1,4 @@
--- `card::kw_row` meets its contract: the two numbers are those of `place::row`'s answer.
+-- `card::kw_row` meets its contract: the two numbers are those of `position::row`'s answer.
 -- Assumes nothing.
 use borrow.Author.Needs.{needs}
 use mathlib.Core.Path.{ap, _∙_}

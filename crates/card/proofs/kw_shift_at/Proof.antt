@@ -1,9 +1,9 @@
--- `card::kw_shift_at` meets its contract: the two numbers are those of `place::shift`'s answer, whose shifts and places are small.
+-- `card::kw_shift_at` meets its contract: the two numbers are those of `position::shift`'s answer, whose shifts and places are small.
 -- Assumes nothing.
 use borrow.Author.Needs.{needs}
 use mathlib.Core.Path.{sym, ap, _∙_}
 use Rattle.model.specs.Answer.{shiftNumber, shiftValue}
-use Rattle.place.proofs.Signed.{read-back}
+use Rattle.position.proofs.Signed.{read-back}
 use Rattle.card.proofs.Places.{shift-by, shift-refused}
 use Rattle.card.proofs.kw_shift_at.Statement.{statement}
 use Rattle.card.proofs.kw_shift_at.Tie as tie

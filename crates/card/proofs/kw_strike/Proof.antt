@@ -2,9 +2,7 @@
 -- Assumes nothing.
 use borrow.Author.Needs.{needs}
 use mathlib.Core.Path.{_∙_, ap}
-use Rattle.model.specs.declared.Answer.{Answer}
 use Rattle.model.specs.Answer.{numberOf, valueOf}
-use Rattle.model.specs.Calls.{edited, struckLayer}
 use Rattle.card.proofs.kw_strike.Statement.{statement}
 use Rattle.card.proofs.kw_strike.Tie as tie
 
@@ -20,10 +18,7 @@ same-length c = search needs
 returns : tie.Need-returns
 returns c =
     let f = c .before .before .before .strike .ensures in
-    let a = c .before .before .before .before .before .before .before .args in (
-      (c .tell .ensures .0 ∙ ap numberOf (f .0), c .tell .ensures .1 ∙ ap valueOf (f .0)),
-      f .1 ∙ ap (λ (r : Answer). edited (a .c) (a .m) r (struckLayer (a .c) (a .m) (a .layer .now) (a .keys .now) (a .r)) (a .layer .now)) (f .0),
-    )
+    ((c .tell .ensures .0 ∙ ap numberOf (f .0), c .tell .ensures .1 ∙ ap valueOf (f .0)), f .1)
 
 pub kw-strike-spec : {M : Type 1} → statement M
 kw-strike-spec = tie.close (tie.spec strike-requires tell-requires same-length returns)

@@ -1,8 +1,8 @@
--- `card::kw_view` meets its contract: the two numbers are those of the part that `read::view_part` names.
+-- `card::kw_view` meets its contract: the two numbers are those of the part that `view::view_part` names.
 -- Assumes nothing.
 use borrow.Author.Needs.{needs}
 use mathlib.Core.Path.{_∙_, ap}
-use Rattle.read.specs.View.{seenNumber, seenValue}
+use Rattle.view.specs.View.{seenNumber, seenValue}
 use Rattle.card.proofs.kw_view.Statement.{statement}
 use Rattle.card.proofs.kw_view.Tie as tie
 

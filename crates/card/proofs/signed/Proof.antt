@@ -2,7 +2,7 @@
 -- Assumes nothing.
 use borrow.Author.Needs.{needs}
 use native.Mathlib.Omega.{arith}
-use Rattle.place.proofs.Signed.{read-small}
+use Rattle.position.proofs.Signed.{read-small}
 use Rattle.card.proofs.signed.Statement.{statement}
 use Rattle.card.proofs.signed.Tie as tie
 

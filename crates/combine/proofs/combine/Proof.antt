@@ -1,205 +1,146 @@
--- `combine::combine` meets its contract: the arguments of both layers, then the form of each, then the rest of the
--- table.
+-- `combine::combine` meets its contract: past the checks of both layers the walk leaves the combination, given room.
 -- Assumes nothing.
-use borrow.Author.Tests.{not-true, not-false}
-use native.Mathlib.Omega.{arith}
-use mathlib.Core.Path.{_≡_, refl, sym, ap, _∙_}
-use mathlib.Core.Bool.{Bool, true, _&&_}
-use mathlib.Core.List.{List}
-use Prim.Native.Nat.{ℕ}
-use lib.ListN.{length}
-use Rattle.model.specs.declared.Answer.{Answer}
-use Rattle.model.specs.declared.Answer.the-variants.{Done, Refused}
-use Rattle.model.specs.Raw.{flat}
-use Rattle.model.specs.Form.{argsOk}
-use Rattle.model.specs.Calls.{formAnswer, combinedLayer, written}
-use Rattle.form.proofs.Accepted.{accepted}
-use Rattle.combine.proofs.Answering.{
-  args-refused,
-  lower-form-refused,
-  upper-form-refused,
-  upper-place,
-  forms,
-  fits-answer,
-}
 use borrow.Author.Needs.{needs}
+use native.Mathlib.Omega.{arith}
+use mathlib.Core.Path.{_≡_, refl, sym, ap, subst, _∙_}
+use mathlib.Core.List.{List}
+use Prim.Native.Nat.{ℕ, _+_, _*_, _≤_}
+use lib.ListN.{length}
+use lib.Dec.{ltb}
+use Rattle.model.specs.declared.Answer.{Answer}
+use Rattle.model.specs.declared.Answer.the-variants.{Done}
+use Rattle.model.specs.Raw.{room}
+use Rattle.over.specs.Over.{over, Named}
+use Rattle.turn.specs.Turn.{Both}
+use Rattle.combine.specs.Checked.{bothAnswer, NamedIf}
+use Rattle.combine.proofs.Answers.{both-refused}
+use Rattle.combine.proofs.Joining.{low, both, whole, fit, short, there, enough, written-whole, kept}
 use Rattle.combine.proofs.combine.Statement.{statement}
 use Rattle.combine.proofs.combine.Tie as tie
 
--- what stands in the third slice after each answer
-abbrev After : (s : tie.Start) → Answer → List ℕ
-After s t =
-    let a = s .args in
-    let M = combinedLayer (a .c) (a .keys .now) (a .mr) (a .r .now) (a .mw) (a .w .now) in
-    written t (flat (a .c) M) (a .out .now)
+slice-aggregate-check-both : tie.Need-slice-aggregate-check-both
+slice-aggregate-check-both c = search needs
 
--- the tests of the arguments
-abbrev argsPass : (s : tie.Start) → Bool
-argsPass s =
-    let a = s .args in
-    argsOk (a .c) (length (a .keys .now)) (a .mr) (length (a .r .now))
-    && argsOk (a .c) (length (a .keys .now)) (a .mw) (length (a .w .now))
-
-tested : (c : tie.After-args-ok2) →
-    (c .before .args-ok .result && c .args-ok2 .result) ≡ argsPass (c .before .before .before .before .before .before)
-tested c =
-    let a = c .before .before .before .before .before .before .args in
-    ap (λ (t : Bool). t && c .args-ok2 .result) (c .before .args-ok .ensures)
-    ∙ ap (λ (t : Bool). argsOk (a .c) (length (a .keys .now)) (a .mr) (length (a .r .now)) && t) (c .args-ok2 .ensures)
-
-passed : (c : tie.Else1) → argsPass (c .before .before .before .before .before .before .before) ≡ true
-passed c = sym (tested (c .before)) ∙ not-false _ (c .if1 .left)
-
--- the form of each layer
-lower-done : (c : tie.After-rows) →
-    let a = c .before .before .before .before .before .before .before .before .before .before .args in
-    formAnswer (a .c) (length (a .keys .now)) (a .mr) (a .r .now) ≡ Done (c .rows .given .0 .0)
-lower-done c = sym (c .before .before .check .ensures) ∙ c .rows .given .1
-
-upper-not : (c : tie.After-y) →
-    let a =
-    c .before .before .before .before .before .before .before .before .before .before .before .before .before .before .args in
-    formAnswer (a .c) (c .before .before .before .before .rows .given .0 .0) (a .mw) (a .w .now)
-    ≡ Refused (c .y .given .0 .0)
-upper-not c = sym (c .before .before .check2 .ensures) ∙ c .y .given .1
-
-upper-done : (c : tie.After-enum-told) →
-    let a =
-    c .before .before .before .before .before .before .before .before .before .before .before .before .before .before .args in
-    formAnswer (a .c) (c .before .before .before .before .rows .given .0 .0) (a .mw) (a .w .now)
-    ≡ Done (c .enum-told .given .0 .0)
-upper-done c = sym (c .before .before .check2 .ensures) ∙ c .enum-told .given .1
-
-args-ok-requires : tie.Need-args-ok-requires
-args-ok-requires c κs = search needs
-
-args-ok-requires-2 : tie.Need-args-ok-requires-2
-args-ok-requires-2 c κs = search needs
-
-refused-requires : tie.Need-refused-requires
-refused-requires c κs = search needs
-
-returns : tie.Need-returns
-returns c =
-    let s = c .before .before .before .before .before .before .before .before in
-    let a = s .args in
-    let no = sym (tested (c .before .before)) ∙ not-true _ (c .before .if1 .taken) in (
-      c .refused .ensures ∙ args-refused (a .c) (a .keys .now) (a .mr) (a .r .now) (a .mw) (a .w .now)
-          (length (a .out .now)) no,
-      ap (After s) (sym (c .refused .ensures)),
-    )
-
-check-requires : tie.Need-check-requires
-check-requires c κs = search needs
+check-both-requires : tie.Need-check-both-requires
+check-both-requires c κs = search needs
 
 enum-known-x : tie.Need-enum-known-x
 enum-known-x c = search needs
 
-enum-known-rows : tie.Need-enum-known-rows
-enum-known-rows c = search needs
-
-check-requires-2 : tie.Need-check-requires-2
-check-requires-2 c κs = search needs
-
-enum-known-y : tie.Need-enum-known-y
-enum-known-y c = search needs
-
-add-refused : tie.Need-add-refused
-add-refused c =
-    let s =
-    c .before .before .before .before .before .before .before .before .before .before .before .before .before .before .before .before in
-    let e = c .before .before .before .before .before .before .before .before .before in
-    let r = c .before .before .before .before .before .before in
-    let y = c .before .before in
-    let a = s .args in
-    omega (
-      arith,
-      upper-place (a .c) (a .keys .now) (a .mr) (a .r .now) (a .mw) (a .w .now) (length (a .out .now)) (passed e)
-          (r .rows .given .0 .0) (lower-done r) (y .y .given .0 .0) (upper-not y),
-    )
-
-refused-requires-2 : tie.Need-refused-requires-2
-refused-requires-2 c κs = search needs
-
 enum-told : tie.Need-enum-told
 enum-told c = search needs
 
-fit-both-requires : tie.Need-fit-both-requires
-fit-both-requires c κs =
-    let s =
-    c .before .before .before .before .before .before .before .before .before .before .before .before .before .before .before in
-    let e = c .before .before .before .before .before .before .before .before in
-    let r = c .before .before .before .before .before in
-    let d = c .before in
-    let a = s .args in (
-      forms (a .c) (a .keys .now) (a .mr) (a .r .now) (a .mw) (a .w .now) (length (a .out .now)) (passed e)
-          (r .rows .given .0 .0) (lower-done r) (d .enum-told .given .0 .0) (upper-done d),
-      accepted (a .c) (length (a .keys .now)) (a .mr) (a .r .now) (r .rows .given .0 .0) (lower-done r) .shown,
-    )
+-- both layers are checked, and the upper one's keys are known
+module _ (c : tie.After-enum-told) where
+  abbrev k : tie.After-check-both
+  k = c .before .before .before
 
-returns-2 : tie.Need-returns-2
-returns-2 c =
-    let s = c .before .before .before .before .before .before .before .before .before .before .before in
-    let e = c .before .before .before .before in
-    let a = s .args in
-    let x = c .before .x .given in (
-      lower-form-refused (a .c) (a .keys .now) (a .mr) (a .r .now) (a .mw) (a .w .now) (length (a .out .now)) (passed e)
-          (x .0 .0)
-          (sym (c .before .before .before .check .ensures) ∙ x .1),
-      refl,
-    )
+  abbrev s : tie.Start
+  s = k .before .before .before .before .before .before
 
-returns-3 : tie.Need-returns-3
-returns-3 c =
-    let s =
-    c .before .before .before .before .before .before .before .before .before .before .before .before .before .before .before .before .before in
-    let e = c .before .before .before .before .before .before .before .before .before .before in
-    let r = c .before .before .before .before .before .before .before in
-    let y = c .before .before .before in
-    let a = s .args in (
-      c .refused2 .ensures
-          ∙ upper-form-refused (a .c) (a .keys .now) (a .mr) (a .r .now) (a .mw) (a .w .now) (length (a .out .now))
-          (passed e)
-          (r .rows .given .0 .0) (lower-done r) (y .y .given .0 .0) (upper-not y),
-      ap (After s) (sym (c .refused2 .ensures)),
-    )
+  abbrev names : List ℕ
+  names = k .check-both .last .1 .1 .1 .1 .1 .1 .0
+
+  done : let a = s .args in
+      bothAnswer (a .c) (a .keys .now) (a .mr) (a .r .now) (a .mw) (a .w .now) ≡ Done (c .enum-told .given .0 .0)
+  done = sym (k .check-both .ensures .0) ∙ c .enum-told .given .1
+
+  named : let a = s .args in Named (a .c) (over (a .c) (a .keys .now) (a .mr) (a .r .now)) (a .mw) (a .w .now) names
+  named =
+      let a = s .args in
+      subst (λ (t : Answer). NamedIf t (a .c) (a .keys .now) (a .mr) (a .r .now) (a .mw) (a .w .now) names)
+      (c .enum-told .given .1) (k .check-both .ensures .1)
+
+  ready : let a = s .args in
+      Both (a .c) (a .keys .now) (over (a .c) (a .keys .now) (a .mr) (a .r .now)) (a .mr) (a .r .now) (a .mw) (a .w .now) names
+  ready = both (fit _ _ _ _ _ _ (s .args .out .now) _ done) names named
+      (omega (arith, k .check-both .kept .1 .1 .1 .1 .1 .1 .0))
+
+room-of-requires : tie.Need-room-of-requires
+room-of-requires c κs = low (fit _ _ _ _ _ _ (s c .args .out .now) _ (done c)) .held .columns
+
+slice-aggregate-more-than : tie.Need-slice-aggregate-more-than
+slice-aggregate-more-than c = search needs
+
+more-than-requires : tie.Need-more-than-requires
+more-than-requires c κs = ready (c .before .before .before)
+
+-- the room is compared with what both layers make together
+module _ (c : tie.After-more-than) where
+  abbrev d : tie.After-enum-told
+  d = c .before .before .before .before
+
+  abbrev made : ℕ
+  made =
+      let a = s d .args in
+      length (whole (a .c) (a .keys .now) (a .mr) (a .r .now) (a .mw) (a .w .now))
+
+  tested : ltb (room (s d .args .c) (length (s d .args .out .now))) made ≡ c .more-than .result
+  tested = sym (c .more-than .ensures .0 ∙ ap (λ (n : ℕ). ltb n made) (c .before .before .before .room-of .ensures))
+
+refused-requires : tie.Need-refused-requires
+refused-requires c κs = search needs
 
 same-length : tie.Need-same-length
 same-length c = search needs
 
-returns-4 : tie.Need-returns-4
-returns-4 c =
-    let s =
-    c .before .before .before .before .before .before .before .before .before .before .before .before .before .before .before .before .before .before in
-    let e = c .before .before .before .before .before .before .before .before .before .before .before in
-    let r = c .before .before .before .before .before .before .before .before in
-    let d = c .before .before .before .before in
-    let a = s .args in
-    let f = c .before .before .fit-both in (
-      f .ensures .0
-          ∙ fits-answer (a .c) (a .keys .now) (a .mr) (a .r .now) (a .mw) (a .w .now) (length (a .out .now)) (passed e)
-          (r .rows .given .0 .0) (lower-done r) (d .enum-told .given .0 .0) (upper-done d),
-      f .ensures .1,
+returns : tie.Need-returns
+returns c =
+    let m = c .before .before .before .before in
+    let e = short _ _ _ _ _ _ (s (d m) .args .out .now) _ (done (d m)) (tested m ∙ c .before .if1 .taken) in
+    rw (c .refused .ensures) (e, m .more-than .ensures .1 ∙ kept _ _ _ _ _ _ _ _ e)
+
+slice-aggregate-weave : tie.Need-slice-aggregate-weave
+slice-aggregate-weave c = search needs
+
+weave-requires : tie.Need-weave-requires
+weave-requires c κs =
+    let t = c .before .before in
+    let m = t .before .before .before in
+    let a = s (d m) .args in (
+      ready (d m),
+      λ _. subst (λ (o : List ℕ). made m * (a .c + 2) ≤ length o) (sym (m .more-than .ensures .1))
+          (there _ _ _ _ _ _ (a .out .now) _ (done (d m)) (tested m ∙ t .if1 .left)),
+    )
+
+returns-2 : tie.Need-returns-2
+returns-2 c =
+    let x = c .before in
+    let b = x .before .before .before in
+    let a = b .before .before .before .before .before .before .args in
+    let e = both-refused _ _ _ _ _ _ (length (a .out .now)) _ (sym (b .check-both .ensures .0) ∙ x .x .given .1) in
+    (e, kept _ _ _ _ _ _ (a .out .now) _ e)
+
+same-length-2 : tie.Need-same-length-2
+same-length-2 c = search needs
+
+returns-3 : tie.Need-returns-3
+returns-3 c =
+    let w = c .before .before in
+    let t = w .before .before .before in
+    let m = t .before .before .before in
+    let o = s (d m) .args .out .now in
+    let l = tested m ∙ t .if1 .left in (
+      enough _ _ _ _ _ _ o _ (done (d m)) l _ (w .weave .ensures .entries),
+      written-whole _ _ _ _ _ _ o _ (done (d m)) l _ _ _ (m .more-than .ensures .1) (w .weave .ensures .wrote refl),
     )
 
 pub combine-spec : {M : Type 1} → statement M
 combine-spec =
     tie.close
     (tie.spec
-    args-ok-requires
-    args-ok-requires-2
-    refused-requires
-    returns
-    check-requires
+    slice-aggregate-check-both
+    check-both-requires
     enum-known-x
-    enum-known-rows
-    check-requires-2
-    enum-known-y
-    add-refused
-    refused-requires-2
     enum-told
-    fit-both-requires
-    returns-2
-    returns-3
+    room-of-requires
+    slice-aggregate-more-than
+    more-than-requires
+    refused-requires
     same-length
-    returns-4)
+    returns
+    slice-aggregate-weave
+    weave-requires
+    returns-2
+    same-length-2
+    returns-3)

@@ -1,154 +1,112 @@
--- `combine::fit_both` meets its contract: the tests are the rows of the table, and the keys read are those that the
--- lower layer leaves.
+-- `combine::fit_both` meets its contract: the tests are the rows of the table, the keys those that the lower layer leaves.
 -- Assumes nothing.
+use borrow.Author.Needs.{needs}
 use borrow.Author.Tests.{not-true, not-false}
 use native.Mathlib.Omega.{arith}
-use mathlib.Core.Path.{_≡_, sym, ap, subst, _∙_}
+use mathlib.Core.Path.{_≡_, sym, subst, _∙_}
 use mathlib.Core.Bool.{true}
-use mathlib.Core.List.{List}
-use Prim.Native.Nat.{ℕ, _≤_}
-use lib.ListN.{length}
+use Prim.Native.Nat.{ℕ}
 use Rattle.order.specs.Lists.{ascending}
-use Rattle.model.specs.declared.Answer.{Answer}
-use Rattle.model.specs.Raw.{layerOf, flat}
-use Rattle.model.specs.Fit.{fitPlace}
-use Rattle.model.specs.Calls.{combinedLayer, written}
 use Rattle.form.specs.InForm.{InForm}
-use Rattle.combine.proofs.Answering.{keys-refused, lower-refused, upper-refused, join-answer, upper-few}
-use borrow.Author.Needs.{needs}
+use Rattle.combine.proofs.Answers.{upper-few, keys-refused, lower-refused, upper-refused, fits-done}
 use Rattle.combine.proofs.fit_both.Statement.{statement}
 use Rattle.combine.proofs.fit_both.Tie as tie
 
--- what stands in the third slice after each answer
-abbrev After : (s : tie.Start) → Answer → List ℕ
-After s t =
-    let a = s .args in
-    let M = combinedLayer (a .c) (a .keys .now) (a .mr) (a .r .now) (a .mw) (a .w .now) in
-    written t (flat (a .c) M) (a .out .now)
-
 rising : (c : tie.Else1) → ascending (c .before .before .before .before .before .before .args .keys .now) ≡ true
-rising c = sym (c .before .keys-ascend .ensures) ∙ not-false _ (c .if1 .left)
+rising c = sym (c .before .ascend .ensures) ∙ not-false _ (c .if1 .left)
 
-lower-fits : (c : tie.Else2) →
-    let a = c .before .before .before .before .before .before .before .before .args in
-    a .mr ≤ fitPlace (a .keys .now) (layerOf (a .c) (a .mr) (a .r .now))
-lower-fits c = omega (arith, c .if2 .left, c .before .fit-place .ensures)
-
-keys-ascend-requires : tie.Need-keys-ascend-requires
-keys-ascend-requires c κs = search needs
+ascend-requires : tie.Need-ascend-requires
+ascend-requires c κs = search needs
 
 refused-requires : tie.Need-refused-requires
 refused-requires c κs = search needs
 
 returns : tie.Need-returns
 returns c =
-    let s = c .before .before .before .before .before .before .before in
-    let a = s .args in
-    let no = sym (c .before .before .keys-ascend .ensures) ∙ not-true _ (c .before .if1 .taken) in (
-      c .refused .ensures ∙ keys-refused (a .c) (a .keys .now) (a .mr) (a .r .now) (a .mw) (a .w .now)
-          (length (a .out .now)) no,
-      ap (After s) (sym (c .refused .ensures)),
-    )
+    let t = c .before in
+    rw (c .refused .ensures)
+    (keys-refused _ _ _ _ _ _ (sym (t .before .ascend .ensures) ∙ not-true _ (t .if1 .taken)), tt)
 
 fit-place-requires : tie.Need-fit-place-requires
-fit-place-requires c κs = search needs
+fit-place-requires c κs = c .before .before .before .before .before .before .pre .0 .lower
 
 refused-requires-2 : tie.Need-refused-requires-2
 refused-requires-2 c κs = search needs
 
 returns-2 : tie.Need-returns-2
 returns-2 c =
-    let s = c .before .before .before .before .before .before .before .before .before in
-    let a = s .args in
-    let f = c .before .before .fit-place in (
-      c .refused2 .ensures
-          ∙ lower-refused (a .c) (a .keys .now) (a .mr) (a .r .now) (a .mw) (a .w .now) (length (a .out .now))
-          (rising (c .before .before .before)) (f .result) (f .ensures) (c .before .if2 .taken),
-      ap (After s) (sym (c .refused2 .ensures)),
-    )
-
-slice-aggregate-fit-over : tie.Need-slice-aggregate-fit-over
-slice-aggregate-fit-over c = search needs
+    let t = c .before in
+    let f = t .before in
+    rw (c .refused2 .ensures)
+    (lower-refused _ _ _ _ _ _ (rising (f .before)) _ (f .fit-place .ensures) (t .if2 .taken), tt)
 
 fit-over-requires : tie.Need-fit-over-requires
 fit-over-requires c κs =
     let s = c .before .before .before .before .before .before .before .before .before in
+    let f = s .pre .0 in
+    let a = s .args in
     record {
-      lower = s .pre .0 .lower;
+      lower = f .lower;
       shown = s .pre .1;
-      upper = subst (λ (n : ℕ). InForm (s .args .c) n (s .args .mw) (s .args .w .now)) (sym (s .pre .1)) (s .pre .0 .upper);
-      room = upper-few (s .pre .0);
+      upper = subst (λ (n : ℕ). InForm (a .c) n (a .mw) (a .w .now)) (sym (s .pre .1)) (f .upper);
+      room = omega (arith, s .pre .2, upper-few f);
     }
 
+-- the upper layer's place
+module _ (c : tie.After-fit-over) where
+  abbrev e : tie.Else2
+  e = c .before .before
+
+  abbrev s : tie.Start
+  s = e .before .before .before .before .before .before .before .before
+
 add-refused : tie.Need-add-refused
-add-refused c = omega (arith, c .if3 .taken, upper-few (c .before .before .before .before .before .before .before .before .before .before .before .before .pre .0))
+add-refused c =
+    let o = c .before .before .before in omega (arith, c .if3 .taken, upper-few (s o .pre .0))
 
 refused-requires-3 : tie.Need-refused-requires-3
 refused-requires-3 c κs = search needs
 
-returns-3 : tie.Need-returns-3
-returns-3 c =
-    let s = c .before .before .before .before .before .before .before .before .before .before .before .before .before in
-    let a = s .args in
-    let e = c .before .before .before .before .before in
-    let f = c .before .before .before .fit-over in (
-      c .refused3 .ensures
-          ∙ upper-refused (a .c) (a .keys .now) (a .mr) (a .r .now) (a .mw) (a .w .now) (length (a .out .now))
-          (rising (e .before .before)) (lower-fits e) (f .result) (f .ensures .0) (c .before .if3 .taken),
-      ap (After s) (sym (c .refused3 .ensures)),
-    )
-
-slice-aggregate-join : tie.Need-slice-aggregate-join
-slice-aggregate-join c = search needs
-
-join-requires : tie.Need-join-requires
-join-requires c κs =
-    let s = c .before .before .before .before .before .before .before .before .before .before .before .before .before .before in
-    let e = c .before .before .before .before .before .before in
-    let f = c .before .before .before .before .fit-over in
-    let q : s .args .mw ≤ f .result = c .before .before .if3 .left in (
-      record {
-        forms = s .pre .0;
-        rising = rising (e .before .before);
-        lower = lower-fits e;
-        upper = omega (arith, q, f .ensures .0);
-      },
-      λ j h. f .ensures .1 j (omega (arith, q, h)),
-      omega (arith, upper-few (s .pre .0), f .kept .1 .1 .1 .1 .1 .1 .1 .0),
-    )
-
 same-length : tie.Need-same-length
 same-length c = search needs
 
+returns-3 : tie.Need-returns-3
+returns-3 c =
+    let t = c .before in
+    let o = t .before .before .before in
+    let p = e o .before in
+    rw (c .refused3 .ensures) (
+      upper-refused _ _ _ _ _ _ (rising (p .before)) _ (p .fit-place .ensures) (e o .if2 .left) _ (o .fit-over .ensures .0)
+          (t .if3 .taken),
+      tt,
+    )
+
+same-length-2 : tie.Need-same-length-2
+same-length-2 c = search needs
+
 returns-4 : tie.Need-returns-4
 returns-4 c =
-    let a = c .before .before .before .before .before .before .before .before .before .before .before .before .before .before .before .before .before .args in
-    let e = c .before .before .before .before .before .before .before .before .before in
-    let f = c .before .before .before .before .before .before .before .fit-over in
-    let q = c .before .before .before .before .before .if3 .left in
-    let j = c .before .before .join in (
-      j .ensures .0
-          ∙ join-answer (a .c) (a .keys .now) (a .mr) (a .r .now) (a .mw) (a .w .now) (length (a .out .now))
-          (rising (e .before .before)) (lower-fits e) (omega (arith, q, f .ensures .0)),
-      j .ensures .1,
+    let o = c .before .before .before in
+    let p = e o .before in (
+      fits-done _ _ _ _ _ _ (rising (p .before)) _ (p .fit-place .ensures) (e o .if2 .left) _ (o .fit-over .ensures .0)
+          (c .if3 .left),
+      λ j h. o .fit-over .ensures .1 j (omega (arith, c .if3 .left, h)),
     )
 
 pub fit-both-spec : {M : Type 1} → statement M
 fit-both-spec =
     tie.close
     (tie.spec
-    keys-ascend-requires
+    ascend-requires
     refused-requires
     returns
     fit-place-requires
     refused-requires-2
     returns-2
-    slice-aggregate-fit-over
     fit-over-requires
     add-refused
     refused-requires-3
-    returns-3
-    slice-aggregate-join
-    join-requires
     same-length
+    returns-3
+    same-length-2
     returns-4)

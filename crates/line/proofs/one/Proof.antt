@@ -1,7 +1,6 @@
 -- `line::one` meets its contract: only the minus sign says anything of one number.
 -- Assumes nothing.
 use borrow.Author.Tests.{eq-eqb, ne-eqb}
-use Rattle.line.specs.Line.{said}
 use Rattle.line.proofs.one.Statement.{statement}
 use Rattle.line.proofs.one.Tie as tie
 

@@ -2,11 +2,12 @@
 -- Assumes nothing.
 use native.Mathlib.Omega.{arith}
 use mathlib.Core.List.{[], _∷_}
-use mathlib.Core.Path.{_≡_, refl, sym, ap, _∙_}
+use mathlib.Core.Path.{_≡_, sym, _∙_}
 use lib.ListN.{drop, getD}
 use Rattle.line.specs.Line.{fields, lineOf}
 use Rattle.line.specs.Fields.{withFields}
-use Rattle.line.proofs.Reading.{ends, goes-on, no-number, next-within}
+use Rattle.line.proofs.Reading.{ends, goes-on, no-number}
+use Rattle.field.proofs.Pass.{next-within}
 use Rattle.line.proofs.Sign.{too-short, space-first, no-space, signed}
 use borrow.Author.Needs.{needs}
 use Rattle.line.proofs.parse.Statement.{statement}

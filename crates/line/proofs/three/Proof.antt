@@ -1,7 +1,6 @@
 -- `line::three` meets its contract: the signs B, + and = are told apart in this order.
 -- Assumes nothing.
 use borrow.Author.Tests.{eq-eqb, ne-eqb}
-use Rattle.line.specs.Line.{said}
 use Rattle.line.proofs.three.Statement.{statement}
 use Rattle.line.proofs.three.Tie as tie
 

@@ -2,8 +2,9 @@
 -- Assumes nothing.
 use native.Mathlib.Omega.{arith}
 use mathlib.Core.List.{[], _∷_}
-use mathlib.Core.Path.{_≡_, refl, sym, ap, _∙_}
-use Rattle.line.proofs.Reading.{ends, goes-on, no-number, next-within}
+use mathlib.Core.Path.{sym, _∙_}
+use Rattle.line.proofs.Reading.{ends, goes-on, no-number}
+use Rattle.field.proofs.Pass.{next-within}
 use borrow.Author.Needs.{needs}
 use Rattle.line.proofs.with_second.Statement.{statement}
 use Rattle.line.proofs.with_second.Tie as tie

@@ -1,9 +1,8 @@
 -- `line::with_third` meets its contract: a third number ends the line.
 -- Assumes nothing.
-use native.Mathlib.Omega.{arith}
 use mathlib.Core.List.{[], _∷_}
 use lib.ListN.{drop}
-use mathlib.Core.Path.{_≡_, refl, sym, ap, _∙_}
+use mathlib.Core.Path.{sym, _∙_}
 use Rattle.line.proofs.Reading.{ends, goes-on, no-number}
 use Rattle.line.proofs.Sign.{too-many}
 use borrow.Author.Needs.{needs}

@@ -1,47 +1,65 @@
--- The column number, then the form check, then the room of the buffer.
+-- `read::answer` meets its contract: the column number, then the form check, then the room of the buffer.
 -- Assumes nothing.
-use mathlib.Core.Path.{sym, _∙_}
-use Rattle.read.proofs.Answers.{column-refused, form-refused, short, enough}
 use borrow.Author.Needs.{needs}
+use mathlib.Core.Path.{_≡_, sym, _∙_}
+use lib.ListN.{length}
+use Rattle.model.specs.declared.Answer.the-variants.{Done}
+use Rattle.model.specs.Calls.{formAnswer}
+use Rattle.read.proofs.Answers.{column-refused, form-refused, short, enough}
 use Rattle.read.proofs.answer.Statement.{statement}
 use Rattle.read.proofs.answer.Tie as tie
 
+refused-requires : tie.Need-refused-requires
+refused-requires c κs = search needs
+
 returns : tie.Need-returns
-returns c =
-    let a = c .before .before .before .args in
-    column-refused (a .c) (a .m) (a .layer .now) (a .base .now) (a .j) (a .len) (c .if1 .taken)
+returns c = c .refused .ensures ∙ column-refused _ _ _ _ _ _ (c .before .if1 .taken)
 
 check-requires : tie.Need-check-requires
 check-requires c κs = search needs
 
-enum-known-f : tie.Need-enum-known-f
-enum-known-f c = search needs
+enum-known-x : tie.Need-enum-known-x
+enum-known-x c = search needs
+
+enum-known-rows : tie.Need-enum-known-rows
+enum-known-rows c = search needs
+
+-- the form check is done
+formed : (c : tie.After-known-told2) →
+    let a = c .before .before .before .before .before .before .before .args in
+    formAnswer (a .c) (length (a .base .now)) (a .m) (a .layer .now) ≡ Done (c .before .rows .given .0 .0)
+formed c = sym (c .before .before .before .check .ensures) ∙ c .before .rows .given .1
+
+refused-requires-2 : tie.Need-refused-requires-2
+refused-requires-2 c κs = search needs
 
 returns-2 : tie.Need-returns-2
 returns-2 c =
-    let d = c .before .before .before .before in
-    let a = d .before .before .before .before .args in
-    short (a .c) (a .m) (a .layer .now) (a .base .now) (a .j) (a .len) _ (d .before .if1 .left)
-    (sym (d .check .ensures) ∙ c .before .before .f .given .1) (c .if2 .taken)
-
-enum-known-f-2 : tie.Need-enum-known-f-2
-enum-known-f-2 c = search needs
+    let t = c .before in
+    let f = t .before in
+    c .refused2 .ensures ∙ short _ _ _ _ _ _ _ (f .before .before .before .before .if1 .left) (formed f) (t .if2 .taken)
 
 returns-3 : tie.Need-returns-3
 returns-3 c =
-    let d = c .before .before .before .before in
-    let a = d .before .before .before .before .args in
-    enough (a .c) (a .m) (a .layer .now) (a .base .now) (a .j) (a .len) _ (d .before .if1 .left)
-    (sym (d .check .ensures) ∙ c .before .before .f .given .1) (c .if2 .left)
+    let x = c .before .x .given in
+    let k = c .before .before .before in
+    form-refused _ _ _ _ _ _ (x .0 .0) (k .before .if1 .left) (sym (k .check .ensures) ∙ x .1)
 
 returns-4 : tie.Need-returns-4
 returns-4 c =
-    let d = c .before .before .before in
-    let a = d .before .before .before .before .args in
-    form-refused (a .c) (a .m) (a .layer .now) (a .base .now) (a .j) (a .len) _ (d .before .if1 .left)
-    (sym (d .check .ensures) ∙ c .before .f2 .given .1)
+    let f = c .before in
+    enough _ _ _ _ _ _ _ (f .before .before .before .before .if1 .left) (formed f) (c .if2 .left)
 
 pub answer-spec : {M : Type 1} → statement M
 answer-spec =
     tie.close
-    (tie.spec returns check-requires enum-known-f returns-2 enum-known-f-2 returns-3 returns-4)
+    (tie.spec
+    refused-requires
+    returns
+    check-requires
+    enum-known-x
+    enum-known-rows
+    refused-requires-2
+    returns-2
+    returns-3
+    returns-4)

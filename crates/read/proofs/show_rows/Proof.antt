@@ -36,7 +36,8 @@ returns : tie.Need-returns
 returns c =
     let f = c .before .before .copy-in in
     let a = c .before .before .before .before .before .before .before .args in
-    subst (λ (ys : List ℕ). Wrote ys (a .out .now) (a .o) (f .result) (f .last .1 .0)) (part-slice (a .s) (a .p) (a .base .now))
+    subst (λ (ys : List ℕ). Wrote ys (a .out .now) (a .o) (f .result) (f .last .1 .0))
+    (part-slice (a .s) (a .p) (a .base .now))
     (record { end = f .ensures .0; numbers = f .ensures .1 })
 
 pub show-rows-spec : {M : Type 1} → statement M

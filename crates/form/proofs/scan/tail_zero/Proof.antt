@@ -1,9 +1,8 @@
--- `form::scan::tail_zero` meets its contract: the values passed are zero, so all are if those from j on are.
+-- `form::scan::tail_zero` meets its contract: all values are zero if those passed were and those from j on are.
 -- Assumes nothing.
 use borrow.Author.Needs.{needs}
-use borrow.Author.Tests.{eq-eqb, ne-eqb}
 use mathlib.Core.Path.{_≡_, refl, sym, _∙_}
-use mathlib.Core.Bool.{Bool}
+use mathlib.Core.Bool.{Bool, _&&_, and-true, and-assoc}
 use Prim.Native.Nat.{ℕ, _-_}
 use lib.ListN.{length, drop}
 use lib.Dec.{eqb}
@@ -16,28 +15,19 @@ abbrev zero? : ℕ → Bool
 zero? v = eqb v 0
 
 abbrev Inv-loop : tie.InvT-loop
-Inv-loop vals j₀ j = all zero? (drop 1 vals) ≡ all zero? (drop j vals)
+Inv-loop vals zero₀ j₀ j-end zero j = all zero? (drop 1 vals) ≡ (zero && all zero? (drop j vals))
 
 abbrev μ-loop : tie.MeasureT-loop
-μ-loop vals j₀ j = length vals - j
+μ-loop vals zero₀ j₀ j-end zero j = j-end - j
 
 loop-holds : tie.Need-loop-holds Inv-loop μ-loop
 loop-holds c = refl
 
-mul-if1 : tie.Need-mul-if1 Inv-loop μ-loop
-mul-if1 c = search needs
+mul-zero : tie.Need-mul-zero Inv-loop μ-loop
+mul-zero c = search needs
 
-shared-slice-read-if1 : tie.Need-shared-slice-read-if1 Inv-loop μ-loop
-shared-slice-read-if1 c = search needs
-
-returns : tie.Need-returns Inv-loop μ-loop
-returns c =
-    let l = c .before .before .before in
-    rw (
-      l .loop .inv,
-      all-step zero? (l .before .args .vals .now) (l .loop .j) (c .before .before .loop-test .taken),
-      ne-eqb _ _ (c .if1 .taken),
-    )
+shared-slice-read-zero : tie.Need-shared-slice-read-zero Inv-loop μ-loop
+shared-slice-read-zero c = search needs
 
 add-j : tie.Need-add-j Inv-loop μ-loop
 add-j c = search needs
@@ -47,14 +37,14 @@ loop-less c = search needs
 
 loop-again : tie.Need-loop-again Inv-loop μ-loop
 loop-again c =
-    let l = c .before .before .before in
-    l .loop .inv ∙ rw (
-      all-step zero? (l .before .args .vals .now) (l .loop .j) (c .before .before .loop-test .taken),
-      eq-eqb _ _ (c .if1 .left),
-    )
+    let l = c .before .before in
+    let vals = l .before .args .vals .now in
+    l .loop .inv ∙ rw (all-step zero? vals (l .loop .j) (c .before .loop-test .taken), and-assoc)
 
-returns-2 : tie.Need-returns-2 Inv-loop μ-loop
-returns-2 c = sym (c .before .loop .inv ∙ all-end zero? _ _ (c .loop-test .left))
+returns : tie.Need-returns Inv-loop μ-loop
+returns c =
+    let l = c .before in
+    sym (l .loop .inv ∙ rw (all-end zero? (l .before .args .vals .now) (l .loop .j) (c .loop-test .left), and-true))
 
 pub tail-zero-spec : {M : Type 1} → statement M
 tail-zero-spec =
@@ -63,10 +53,9 @@ tail-zero-spec =
     Inv-loop
     μ-loop
     loop-holds
-    mul-if1
-    shared-slice-read-if1
-    returns
+    mul-zero
+    shared-slice-read-zero
     add-j
     loop-less
     loop-again
-    returns-2)
+    returns)

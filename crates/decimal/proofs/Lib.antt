@@ -1,0 +1,3 @@
+pub mod Four
+pub mod Digits
+pub mod Examples

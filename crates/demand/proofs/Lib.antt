@@ -1,0 +1,4 @@
+pub mod Promises
+pub mod Call
+pub mod Again
+pub mod Examples

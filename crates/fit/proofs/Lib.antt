@@ -1,0 +1,4 @@
+pub mod Ahead
+pub mod Fitting
+pub mod Answers
+pub mod Unique

@@ -1,0 +1,97 @@
+// The three edits.
+use base::Counts;
+use base::Reply;
+use model::Answer;
+use text::Said;
+ghost use mathlib.Core.Path.{_≡_};
+ghost use Prim.Native.Nat.{_≤_, _<_};
+ghost use Rattle.line.specs.declared.Line.the-variants.{Add, Strike, Change};
+ghost use Rattle.base.specs.Base.{mostBase, sheetOf};
+ghost use Rattle.hear.specs.Heard.{entered as Heard·entered, Heard};
+
+// The reply to an edit line whose edit answered so.
+fn entered(counts: Counts, answer: Answer) -> Reply
+    requires { ⌜ counts .lines < 9223372036854775808 ⌝ }
+    ensures { λ r. ⌜ r ≡ Heard·entered counts answer ⌝ }
+{
+    let lines = counts.lines + 1;
+    match answer {
+        Answer::Done(k) => Reply {
+            counts: Counts {
+                rows: counts.rows,
+                entries: k,
+                edited: true,
+                lines,
+            },
+            said: Said::Nothing,
+        },
+        Answer::Refused(x) => Reply {
+            counts: Counts {
+                rows: counts.rows,
+                entries: counts.entries,
+                edited: true,
+                lines,
+            },
+            said: Said::Refused(x.number),
+        },
+    }
+}
+
+// Adds a row.
+pub fn add_row(
+    counts: Counts,
+    g: u64,
+    s: u64,
+    m: u64,
+    table: &[u64; 1536],
+    layer: &mut [u64; 2560],
+) -> Reply
+    requires { ⌜ (counts .rows ≤ mostBase) × (counts .lines < 9223372036854775808) ⌝ }
+    ensures { λ r. ⌜ (let T = now (table .entry) in
+        Heard (Add g s m) counts (sheetOf T (now (layer .entry))) r (sheetOf T (now (layer .exit)))) ⌝ }
+{
+    let row = [g, s, m];
+    let n = counts.rows;
+    let numbers = &table[..];
+    let answer = edit::add(3, counts.entries, layer, &numbers[..n], &row);
+    entered(counts, answer)
+}
+
+// Strikes row number r.
+pub fn strike_row(counts: Counts, r: u64, table: &[u64; 1536], layer: &mut [u64; 2560]) -> Reply
+    requires { ⌜ (counts .rows ≤ mostBase) × (counts .lines < 9223372036854775808) ⌝ }
+    ensures { λ x. ⌜ (let T = now (table .entry) in
+        Heard (Strike r) counts (sheetOf T (now (layer .entry))) x (sheetOf T (now (layer .exit)))) ⌝ }
+{
+    let n = counts.rows;
+    let numbers = &table[..];
+    let answer = edit::strike(3, counts.entries, layer, &numbers[..n], r as usize);
+    entered(counts, answer)
+}
+
+// Changes column j of row number r to v.
+pub fn change_row(
+    counts: Counts,
+    r: u64,
+    j: u64,
+    v: u64,
+    table: &[u64; 1536],
+    layer: &mut [u64; 2560],
+) -> Reply
+    requires { ⌜ (counts .rows ≤ mostBase) × (counts .lines < 9223372036854775808) ⌝ }
+    ensures { λ x. ⌜ (let T = now (table .entry) in
+        Heard (Change r j v) counts (sheetOf T (now (layer .entry))) x (sheetOf T (now (layer .exit)))) ⌝ }
+{
+    let n = counts.rows;
+    let numbers = &table[..];
+    let answer = edit::change(
+        3,
+        counts.entries,
+        layer,
+        &numbers[..n],
+        r as usize,
+        j as usize,
+        v,
+    );
+    entered(counts, answer)
+}

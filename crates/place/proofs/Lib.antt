@@ -1,7 +1,0 @@
-pub mod Walk
-pub mod Signed
-pub mod ByKind
-pub mod Counting
-pub mod Walking
-pub mod Answers
-pub mod Unique

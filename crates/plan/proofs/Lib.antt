@@ -1,0 +1,3 @@
+pub mod Struck
+pub mod Changed
+pub mod Planned

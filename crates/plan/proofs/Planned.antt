@@ -1,0 +1,186 @@
+-- The splice that each edit is: where its entry lands, which entries go, and that it leads to the edited layer.
+-- Assumes nothing.
+use Prim.Native.Nat.{ℕ, zero, suc, _+_, _-_, _≤_, _<_}
+use native.Mathlib.Nat.{add-zero, zero-add, sub-zero, zero-sub, suc-sub-suc}
+use native.Mathlib.Omega.{arith}
+use mathlib.Core.Path.{_≡_, refl, sym, ap, _∙_, subst}
+use mathlib.Core.Bool.{false, _&&_}
+use mathlib.Core.List.{List, [], _∷_, _++_}
+use lib.ListN.{length, getD, take, drop, replicate}
+use lib.Seq.{paste, take-at, take-length}
+use lib.Dec.{leb, ltb}
+use borrow.Author.Tests.{lt-ltb, le-leb}
+use Rattle.order.specs.Lists.{one, insert, without}
+use Rattle.order.proofs.Tests.{and-of}
+use Rattle.order.proofs.Pairs.{AllPairs}
+use Rattle.order.proofs.Ascending.{At, at-length, getD-at}
+use Rattle.order.proofs.Splice.{insert-at, without-at}
+use Rattle.model.specs.declared.Entry.{Entry}
+use Rattle.model.specs.declared.Back.the-variants as backed
+use Rattle.model.specs.Row.{Row, key}
+use Rattle.model.specs.Cell.{to}
+use Rattle.model.specs.Layer.{Edit, at, add, strike, change, Layer, struck, rowsAfter}
+use Rattle.model.specs.Raw.{ADD, STRIKE, addEntry, strikeEntry, changeEntry, numbersOf, layerOf}
+use Rattle.model.specs.Fit.{keysBelow}
+use Rattle.model.specs.Read.{read}
+use Rattle.model.specs.Position.{base, added, back}
+use Rattle.model.specs.Edits.{before, addRow, strikeBase, strikeRow, changeBase}
+use Rattle.model.specs.Calls.{originAnswer}
+use Rattle.model.proofs.Count.{read-length}
+use Rattle.model.proofs.Column.{singles, singles-length}
+use Rattle.model.proofs.Origin.{Stands, back-row, origin-base, origin-added}
+use Rattle.model.proofs.Readback.{sound-wide}
+use Rattle.write.specs.declared.Splice.{Splice}
+use Rattle.write.specs.Splice.{entryNumbers}
+use Rattle.write.specs.Plans.{Plans}
+use Rattle.write.proofs.Layers.{Written, strike-numbers, change-numbers}
+use Rattle.landing.specs.Landing.{aim, landing, changesFirst}
+use Rattle.landing.proofs.Landed.{landing-le, lands-after, lands-first}
+use Rattle.landing.proofs.Known.{Known}
+use Rattle.landing.proofs.Shown.{aim-add}
+use Rattle.plan.specs.Out.{outOf}
+use Rattle.plan.proofs.Struck.{in-turn, strike-splice}
+use Rattle.plan.proofs.Changed.{aim-change, change-splice, first-there}
+
+-- eight zeros with a row written over their front
+drop-zeros : (n k : ℕ) → drop n (replicate k 0) ≡ replicate {A = ℕ} (k - n) 0
+drop-zeros zero k = ap (λ (n : ℕ). replicate n 0) (sym (sub-zero k))
+drop-zeros (suc n) zero = ap (λ (n : ℕ). replicate n 0) (sym (zero-sub (suc n)))
+drop-zeros (suc n) (suc k) = drop-zeros n k ∙ ap (λ (n : ℕ). replicate n 0) (sym (suc-sub-suc k n))
+
+pub filled : (row : List ℕ) → paste (replicate 8 0) 0 row (length row) ≡ row ++ replicate (8 - length row) 0
+filled row = rw (take-length row, zero-add, drop-zeros (length row) 8)
+
+pub key-first : (row : Row) → getD row 0 0 ≡ key row
+unfolding key
+key-first row = refl
+
+module _ {c m : ℕ} {raw K : List ℕ} (N : Known c m raw K) where
+  abbrev L : Layer
+  L = layerOf c m raw
+
+  -- the layer as it is written in its slice
+  pub written : Written c m raw L
+  written = record {
+    numbers = N .acc .numbers;
+    size = N .acc .size;
+    room = N .acc .held .room;
+    wide = λ e k. sound-wide c (length K) (N .acc .held .some) e (N .acc .each e k);
+  }
+
+  sorted : AllPairs before L
+  sorted = N .good .fit .sorted
+
+  -- add a row: no entry goes, and its add comes where it lands
+  pub add-plans : (row : Row) → length row ≡ c → (p i : ℕ) → p ≡ keysBelow (key row) K
+      → i ≡ landing (aim p ADD (key row)) L
+      → (e : Entry) → e ≡ addEntry p (row ++ replicate (8 - length row) 0)
+      → Plans c L (addRow K row L) (record { i = i; gone = 0; comes = 1; entry = e })
+  unfolding addRow
+  add-plans row l p i ranks lands e f =
+      let x = aim p ADD (key row) in
+      let same : (d : Edit) → before d (at p (add row)) ≡ before d x = λ d. sym (aim-add d p (key row) row refl) in
+      record {
+        edit = at p (add row);
+        few = omega arith;
+        within = omega (arith, lands, landing-le x L);
+        leads =
+            ap (λ (n : ℕ). insert before (at n (add row)) L) (sym ranks)
+            ∙ (insert-at before (at p (add row)) i L (λ d n. same d ∙ lands-after x L i lands d n)
+            (λ d n. same d ∙ lands-first x L i lands sorted d n)
+            ∙ ap (λ (n : ℕ). take i L ++ (at p (add row) ∷ drop n L)) (sym (add-zero i)));
+        numbers =
+            ap (entryNumbers c) f ∙ ap (λ (t : List ℕ). p ∷ ADD ∷ t) (take-at row (replicate (8 - length row) 0) c l);
+        wide = omega (arith, l);
+      }
+
+  strike-wide : (s k : ℕ) → length (numbersOf c (at s (strike k))) ≡ c + 2
+  strike-wide s k = sound-wide c (suc s) (N .acc .held .some) (at s (strike k)) (lt-ltb s (suc s) (omega arith))
+
+  -- strike a base row: its changes go, from where the strike lands up to the first entry past the row, and it comes
+  pub strike-plans : (s i end : ℕ) → struck s L ≡ false → i ≡ landing (aim s STRIKE 0) L
+      → end ≡ landing (aim (s + 1) ADD 0) L
+      → (e : Entry) → e ≡ strikeEntry s (getD K s 0)
+      → Plans c L (strikeBase K s L) (record { i = i; gone = end - i; comes = 1; entry = e })
+  strike-plans s i end u p q e f =
+      let h = N .acc .held in
+      record {
+        edit = at s (strike (getD K s 0));
+        few = omega arith;
+        within = in-turn s L sorted i end p q .1;
+        leads = strike-splice s L sorted i end p q K u;
+        numbers = ap (entryNumbers c) f ∙ strike-numbers c s (getD K s 0) (h .some) (h .columns);
+        wide = strike-wide s (getD K s 0);
+      }
+
+  -- change a cell of a base row: its old change goes, if it has one, and the new one comes in its place
+  pub change-plans : (s j v i k : ℕ) → 1 ≤ j → j < c → i ≡ landing (aim s j 0) L → k ≡ one (changesFirst s j (drop i L))
+      → (e : Entry) → e ≡ changeEntry s j v
+      → Plans c L (changeBase s j (to v) L) (record { i = i; gone = k; comes = 1; entry = e })
+  change-plans s j v i k l g p q e f =
+      let h = N .acc .held in
+      let lands : i ≡ landing (at s (change j (to 0))) L =
+      p ∙ ap (λ (d : Edit). landing d L) (aim-change s j (omega (arith, h .columns))) in
+      let t = changesFirst s j (drop i L) in
+      record {
+        edit = at s (change j (to v));
+        few = omega arith;
+        within = omega (arith, q, first-there s j (to v) L sorted i lands t refl);
+        leads =
+            change-splice s j (to v) L sorted i lands t refl
+            ∙ ap (λ (n : ℕ). take i L ++ (at s (change j (to v)) ∷ drop (i + n) L)) (sym q);
+        numbers = ap (entryNumbers c) f ∙ change-numbers c s v (h .some) (h .columns) j;
+        wide =
+            sound-wide c (suc s) (h .some) (at s (change j (to v)))
+            (and-of (ltb s (suc s)) (leb 1 j && ltb j c) (lt-ltb s (suc s) (omega arith))
+            (and-of (leb 1 j) (ltb j c) (le-leb 1 j l) (lt-ltb j c g)));
+      }
+
+  -- strike an added row: its entry goes
+  pub out-plans : (i : ℕ) → i < length L → Plans c L (without i L) (outOf i)
+  out-plans i l =
+      let h = N .acc .held in
+      record {
+        edit = at 0 (strike 0);
+        few = omega arith;
+        within = omega arith;
+        leads = without-at i L;
+        numbers = strike-numbers c 0 0 (h .some) (h .columns);
+        wide = strike-wide 0 0;
+      }
+
+  -- what stands behind a row number below the shown rows
+  module _ (r : ℕ) (h : r < rowsAfter (length K) L) where
+    pub stands : Stands (length K) L (back (length K) L r)
+    stands =
+        let T = singles K in
+        let e : length (read T L) ≡ rowsAfter (length K) L = read-length T L (N .good .fit)
+        ∙ ap (λ (n : ℕ). rowsAfter n L) (singles-length K) in
+        let w = back-row T L r (getD (read T L) r []) (getD-at (read T L) r [] (omega (arith, e))) in
+        rw (singles-length K) at (w .stands)
+
+    pub of-base : (s : ℕ) → originAnswer (back (length K) L r) ≡ backed.Base s
+        → (back (length K) L r ≡ base s) × (s < length K) × (struck s L ≡ false)
+    of-base s e =
+        let o = origin-base (back (length K) L r) s e in
+        let w = subst (Stands (length K) L) o stands in
+        (o, w .0, w .1)
+
+    pub of-added : (i : ℕ) → originAnswer (back (length K) L r) ≡ backed.Added i
+        → (back (length K) L r ≡ added i) × (p : ℕ) × (q : Row) × At (at p (add q)) i 0 L
+    of-added i e =
+        let o = origin-added (back (length K) L r) i e in
+        let w = subst (Stands (length K) L) o stands in
+        (o, w .0, w .1, w .2)
+
+    pub strike-of-base : (s : ℕ) → back (length K) L r ≡ base s → (p : Splice) → Plans c L (strikeBase K s L) p
+        → Plans c L (strikeRow K r L) p
+    unfolding strikeRow
+    strike-of-base s o p w = rw o w
+
+    pub strike-of-added : (i : ℕ) → originAnswer (back (length K) L r) ≡ backed.Added i
+        → Plans c L (strikeRow K r L) (outOf i)
+    unfolding strikeRow
+    strike-of-added i e =
+        let w = of-added i e in
+        rw (w .0) (out-plans i (omega (arith, at-length (w .3))))

@@ -1,0 +1,128 @@
+// Which splice an edit of a layer is: found by looking, with nothing written.
+use model::Back;
+use model::Entry;
+use write::Splice;
+ghost use mathlib.Core.Path.{_≡_};
+ghost use mathlib.Core.Bool.{false};
+ghost use mathlib.Core.List.{_++_};
+ghost use Prim.Native.Nat.{_-_, _≤_, _<_};
+ghost use lib.ListN.{length, replicate};
+ghost use Rattle.model.specs.Row.{key};
+ghost use Rattle.model.specs.Cell.{to};
+ghost use Rattle.model.specs.Layer.{struck, rowsAfter};
+ghost use Rattle.model.specs.Raw.{layerOf};
+ghost use Rattle.model.specs.Read.{keysAfter};
+ghost use Rattle.model.specs.Refusals.{shownKey};
+ghost use Rattle.model.specs.Edits.{addRow, strikeBase, strikeRow, changeBase};
+ghost use Rattle.write.specs.Plans.{Plans};
+ghost use Rattle.fit.specs.Ready.{Ready};
+ghost use Rattle.plan.specs.Out.{outOf};
+
+// A row of at most eight values, with zeros behind it.
+fn eight(row: &[u64]) -> [u64; 8]
+    requires { ⌜ length (now row) ≤ 8 ⌝ }
+    ensures { λ r. ⌜ r ≡ now (row .entry) ++ replicate (8 - length (now (row .entry))) 0 ⌝ }
+{
+    let mut vals = [0u64; 8];
+    run::copy_in(row, &mut vals, 0);
+    vals
+}
+
+// The splice that adds a row, and whether its key is shown already.
+pub struct Adding {
+    pub shown: bool,
+    pub splice: Splice,
+}
+
+// Adds a row of c values.
+pub fn add(c: usize, m: usize, layer: &[u64], keys: &[u64], row: &[u64]) -> Adding
+    requires { ⌜ Ready c m (now layer) (now keys) × (length (now row) ≡ c) ⌝ }
+    ensures { λ r. ⌜ (let K = now (keys .entry) in let L = layerOf c m (now (layer .entry)) in
+        (r .shown ≡ shownKey (key (now (row .entry))) (keysAfter K L))
+        × Plans c L (addRow K (now (row .entry)) L) (r .splice)) ⌝ }
+{
+    let k = row[0];
+    let p = keys::below(k, keys);
+    let s = p as u64;
+    let i = landing::landing(c, m, layer, s, Entry::ADD, k);
+    let shown = landing::is_shown(c, m, layer, keys, k, p, i);
+    let entry = Entry::add(s, eight(row));
+    let splice = Splice {
+        i,
+        gone: 0,
+        comes: 1,
+        entry,
+    };
+    Adding { shown, splice }
+}
+
+// Entry number i goes, and none comes.
+fn out(i: usize) -> Splice
+    ensures { λ p. ⌜ p ≡ outOf i ⌝ }
+{
+    let entry = Entry::strike(0, 0);
+    Splice {
+        i,
+        gone: 1,
+        comes: 0,
+        entry,
+    }
+}
+
+// Strikes base row s, which is shown: its changes go, and a strike with its key comes.
+fn strike_base(c: usize, m: usize, layer: &[u64], keys: &[u64], s: usize) -> Splice
+    requires { ⌜ Ready c m (now layer) (now keys) × (s < length (now keys))
+        × (struck s (layerOf c m (now layer)) ≡ false) ⌝ }
+    ensures { λ p. ⌜ (let L = layerOf c m (now (layer .entry)) in Plans c L (strikeBase (now (keys .entry)) s L) p) ⌝ }
+{
+    let p = s as u64;
+    let i = landing::landing(c, m, layer, p, Entry::STRIKE, 0);
+    let end = landing::landing(c, m, layer, p + 1, Entry::ADD, 0);
+    let gone = end - i;
+    let entry = Entry::strike(p, keys[s]);
+    Splice {
+        i,
+        gone,
+        comes: 1,
+        entry,
+    }
+}
+
+// Strikes row number r, which is shown: an added row's entry goes; a base row loses its changes and gains a strike.
+pub fn strike(c: usize, m: usize, layer: &[u64], keys: &[u64], r: usize) -> Splice
+    requires { ⌜ Ready c m (now layer) (now keys) × (r < rowsAfter (length (now keys)) (layerOf c m (now layer))) ⌝ }
+    ensures { λ p. ⌜ (let L = layerOf c m (now (layer .entry)) in Plans c L (strikeRow (now (keys .entry)) r L) p) ⌝ }
+{
+    let o = mark::origin_of(c, keys.len(), m, layer, r);
+    match o {
+        Back::Base(s) => strike_base(c, m, layer, keys, s),
+        Back::Added(i) => out(i),
+        Back::Refused(_) => out(0),
+    }
+}
+
+// Changes column j of base row s to v: the change of that column is replaced, or entered in column order.
+pub fn change_base(
+    c: usize,
+    m: usize,
+    layer: &[u64],
+    keys: &[u64],
+    s: usize,
+    j: usize,
+    v: u64,
+) -> Splice
+    requires { ⌜ Ready c m (now layer) (now keys) × (s < length (now keys)) × (1 ≤ j) × (j < c) ⌝ }
+    ensures { λ p. ⌜ (let L = layerOf c m (now (layer .entry)) in Plans c L (changeBase s j (to v) L) p) ⌝ }
+{
+    let p = s as u64;
+    let column = j as u64;
+    let i = landing::landing(c, m, layer, p, column, 0);
+    let old = entry::one_if(landing::changes(c, m, layer, i, p, column));
+    let entry = Entry::change(p, column, v);
+    Splice {
+        i,
+        gone: old,
+        comes: 1,
+        entry,
+    }
+}

@@ -1,0 +1,3 @@
+pub mod Mine
+pub mod Typed
+pub mod Calls

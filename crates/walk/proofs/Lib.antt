@@ -1,0 +1,3 @@
+pub mod Marks
+pub mod Walking
+pub mod Looking

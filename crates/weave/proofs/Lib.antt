@@ -1,0 +1,4 @@
+pub mod Buffer
+pub mod Patching
+pub mod Putting
+pub mod Writing
