@@ -7,9 +7,9 @@ use denote.Ref.{now}
 use denote.Triple.Clauses.{AtExit}
 use borrow.Fn.Kinds.{Dens, endedOf}
 use Rattle.order.proofs.Unique.{Unique}
-use Rattle.card.specs.declared.Told.{Told}
-use Rattle.card.specs.declared.ToldShift.{ToldShift}
-use Rattle.card.specs.declared.Part.{Part as ToldPart}
+use Rattle.told.specs.declared.Told.{Told}
+use Rattle.told.specs.declared.ToldShift.{ToldShift}
+use Rattle.told.specs.declared.Part.{Part as ToldPart}
 use Rattle.card.proofs.kw_fit.Kinds as fit-call
 use Rattle.card.proofs.kw_fit.Reads as fit-promise
 use Rattle.card.proofs.kw_read.Kinds as read-call

@@ -1,10 +1,9 @@
 // What C calls: each export hands its arguments to the proved call and turns the answer into two numbers. include/kwadirumpe.h has the prototypes.
-use model::Answer;
-use model::Back;
-use model::Shifted;
-ghost use Prim.Native.Nat.{_+_, _≤_};
+use told::Part;
+use told::Told;
+use told::ToldShift;
+use told::tell;
 ghost use lib.ListN.{length};
-ghost use lib.IntN.{pos};
 ghost use mathlib.Core.Path.{_≡_};
 ghost use Rattle.model.specs.Calls.{
   fitAnswer,
@@ -25,59 +24,7 @@ ghost use Rattle.model.specs.Calls.{
   moveAnswer,
   moveSlice,
 };
-ghost use Rattle.card.specs.Told.{Tells, TellsShift, TellsBack, TellsPart};
-
-// An answer: number 0 and the result, or the refusal's number and its place.
-#[repr(C)]
-pub struct Told {
-    pub number: u64,
-    pub value: usize,
-}
-
-// The same with a signed result.
-#[repr(C)]
-pub struct ToldShift {
-    pub number: u64,
-    pub value: i64,
-}
-
-// The viewer's answer, which is no refusal: whether it is the front of the buffer, else a part of the base column; and its length.
-#[repr(C)]
-pub struct Part {
-    pub front: u64,
-    pub count: usize,
-}
-
-fn tell(a: Answer) -> Told
-    ensures { λ r. ⌜ Tells r a ⌝ }
-{
-    match a {
-        Answer::Done(k) => Told {
-            number: 0,
-            value: k,
-        },
-        Answer::Refused(x) => Told {
-            number: x.number,
-            value: x.place,
-        },
-    }
-}
-
-// A place as a signed number.
-fn signed(k: usize) -> i64
-    requires { ⌜ k ≤ 512 ⌝ }
-    ensures { λ r. ⌜ r ≡ pos k ⌝ }
-{
-    k as i64
-}
-
-// An added entry's number, past all row numbers.
-fn past_rows(i: usize) -> usize
-    requires { ⌜ i ≤ 512 ⌝ }
-    ensures { λ r. ⌜ r ≡ 65536 + i ⌝ }
-{
-    65536 + i
-}
+ghost use Rattle.told.specs.Told.{Tells, TellsShift, TellsBack, TellsPart};
 
 #[no_mangle]
 pub extern "C" fn kw_fit(c: usize, m: usize, layer: &[u64], keys: &[u64]) -> Told
@@ -114,28 +61,14 @@ pub extern "C" fn kw_view(
     ensures { λ r. ⌜ (let B = now (base .entry) in
         TellsPart r (length B) (viewPart c m (now (layer .entry)) B j (length (now (out .entry))))) ⌝ }
 {
-    let p = view::view_part(c, m, layer, base, j, out.len());
-    Part {
-        front: p.number(),
-        count: p.value(),
-    }
+    told::tell_part(view::view_part(c, m, layer, base, j, out.len()))
 }
 
 #[no_mangle]
 pub extern "C" fn kw_shift_at(c: usize, n: usize, m: usize, layer: &[u64], s: usize) -> ToldShift
     ensures { λ r. ⌜ TellsShift r (shiftAnswer c n m (now (layer .entry)) s) ⌝ }
 {
-    let a = position::shift(c, n, m, layer, s);
-    match a {
-        Shifted::By(z) => ToldShift {
-            number: 0,
-            value: z,
-        },
-        Shifted::Refused(x) => ToldShift {
-            number: x.number,
-            value: signed(x.place),
-        },
-    }
+    told::tell_shift(position::shift(c, n, m, layer, s))
 }
 
 #[no_mangle]
@@ -150,21 +83,7 @@ pub extern "C" fn kw_row(c: usize, n: usize, m: usize, layer: &[u64], s: usize) 
 pub extern "C" fn kw_back(c: usize, n: usize, m: usize, layer: &[u64], r: usize) -> Told
     ensures { λ o. ⌜ TellsBack o (backAnswer c n m (now (layer .entry)) r) ⌝ }
 {
-    let a = position::back(c, n, m, layer, r);
-    match a {
-        Back::Base(s) => Told {
-            number: 0,
-            value: s,
-        },
-        Back::Added(i) => Told {
-            number: 0,
-            value: past_rows(i),
-        },
-        Back::Refused(x) => Told {
-            number: x.number,
-            value: x.place,
-        },
-    }
+    told::tell_back(position::back(c, n, m, layer, r))
 }
 
 #[no_mangle]
@@ -172,7 +91,7 @@ pub extern "C" fn kw_add(c: usize, m: usize, layer: &mut [u64], keys: &[u64], ro
     ensures { λ o. ⌜ (let L = now (layer .entry) in let K = now (keys .entry) in let R = now (row .entry) in
         Tells o (addAnswer c m L K R) × (now (layer .exit) ≡ addSlice c m L K R)) ⌝ }
 {
-    tell(edit::add(c, m, layer, keys, row))
+    tell(add::add(c, m, layer, keys, row))
 }
 
 #[no_mangle]
@@ -180,7 +99,7 @@ pub extern "C" fn kw_strike(c: usize, m: usize, layer: &mut [u64], keys: &[u64],
     ensures { λ o. ⌜ (let L = now (layer .entry) in let K = now (keys .entry) in
         Tells o (strikeAnswer c m L K r) × (now (layer .exit) ≡ strikeSlice c m L K r)) ⌝ }
 {
-    tell(edit::strike(c, m, layer, keys, r))
+    tell(strike::strike(c, m, layer, keys, r))
 }
 
 #[no_mangle]
@@ -196,7 +115,7 @@ pub extern "C" fn kw_change(
     ensures { λ o. ⌜ (let L = now (layer .entry) in let K = now (keys .entry) in
         Tells o (changeAnswer c m L K r j v) × (now (layer .exit) ≡ changeSlice c m L K r j v)) ⌝ }
 {
-    tell(edit::change(c, m, layer, keys, r, j, v))
+    tell(change::change(c, m, layer, keys, r, j, v))
 }
 
 #[no_mangle]

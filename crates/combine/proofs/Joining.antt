@@ -8,16 +8,16 @@ use native.Mathlib.Omega.{arith}
 use lib.ListN.{length, drop}
 use lib.Dec.{ltb}
 use borrow.Author.Tests.{ltb-false, le-ltb}
-use Rattle.model.specs.declared.Answer.{Answer}
-use Rattle.model.specs.declared.Answer.the-variants.{Done, Refused}
+use Rattle.words.specs.declared.Answer.{Answer}
+use Rattle.words.specs.declared.Answer.the-variants.{Done, Refused}
 use Rattle.model.specs.Limits.{mostRows}
 use Rattle.model.specs.Layer.{Layer, rowsAfter}
 use Rattle.model.specs.Raw.{layerOf, flat, room}
 use Rattle.model.specs.Read.{keysAfter}
 use Rattle.model.specs.Redo.{combine}
-use Rattle.model.specs.Refusals.{refusal}
+use Rattle.words.specs.Answer.{refusal}
 use Rattle.model.specs.Calls.{formAnswer, combineRows, combineAnswer, combineSlice, combinedLayer, written}
-use Rattle.model.proofs.Stages.{reached, stage-passed}
+use Rattle.theory.proofs.Stages.{reached, stage-passed}
 use Rattle.form.proofs.Accepted.{Accepted, accepted}
 use Rattle.write.proofs.Laws.{in-room}
 use Rattle.over.specs.Over.{Named}
@@ -25,8 +25,8 @@ use Rattle.woven.specs.Woven.{wovenLayer}
 use Rattle.woven.proofs.Combined.{Combines, combines}
 use Rattle.turn.specs.Turn.{Both}
 use Rattle.weave.specs.Written.{Woven}
-use Rattle.combine.specs.Checked.{bothAnswer, Fits}
-use Rattle.combine.proofs.Answers.{after-both, all-fit}
+use Rattle.stacked.specs.Checked.{bothAnswer, Fits}
+use Rattle.stacked.proofs.Answers.{after-both, all-fit}
 
 -- what both layers make together
 abbrev pub whole : ℕ → List ℕ → ℕ → List ℕ → ℕ → List ℕ → Layer

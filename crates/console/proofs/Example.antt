@@ -15,13 +15,12 @@ use Rattle.line.specs.Line.{fields, lineOf}
 use Rattle.decimal.specs.Decimal.{digitsWithin, digits, decimal}
 use Rattle.text.specs.Text.{message, rowText, tableText}
 use Rattle.hear.specs.Heard.{heard, after}
-use Rattle.feed.specs.Input.{bytesIn, inputEnds, linesFrom, linesOf}
+use Rattle.feed.specs.Input.{nothingRead, bytesIn, inputEnds, linesFrom, linesOf}
 use Rattle.show.specs.Shown.{rowsOf, ending}
-use Rattle.console.specs.Standing.{nothingRead}
-use Rattle.console.specs.Told.{tableIn, printed, zeros, exampleInput, exampleOutput}
+use Rattle.console.specs.Told.{tableIn, closing, printed, zeros, exampleInput, exampleOutput}
 
 pub example-printed : printed exampleInput zeros ≡ exampleOutput
-unfolding key entriesAt layerOf flat room formPlace argsOk fitPlace origins addRow strikeBase strikeRow breaksForm formAnswer addAnswer strikeAnswer isNumber fields lineOf digitsWithin digits decimal message rowText tableText heard after bytesIn inputEnds rowsOf ending printed
+unfolding key entriesAt layerOf flat room formPlace argsOk fitPlace origins addRow strikeBase strikeRow breaksForm formAnswer addAnswer strikeAnswer isNumber fields lineOf digitsWithin digits decimal message rowText tableText heard after bytesIn inputEnds rowsOf ending closing printed
 example-printed = refl
 
 pub example-told : tableIn (linesOf exampleInput) (nothingRead zeros) [] ≡ (15 ∷ 2 ∷ 4 ∷ []) ∷ (20 ∷ 1 ∷ 2 ∷ []) ∷ []

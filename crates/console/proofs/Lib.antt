@@ -4,3 +4,4 @@ pub mod Example
 pub mod Standing
 pub mod Whole
 pub mod Told
+pub mod Run

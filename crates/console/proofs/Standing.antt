@@ -13,8 +13,8 @@ use lib.Dec.{leb, ltb}
 use borrow.Author.Tests.{lt-ltb, le-ltb, le-leb, leb-false, ne-eqb}
 use Rattle.order.specs.Lists.{rising, ascending}
 use Rattle.order.proofs.Tests.{and-l, and-r, and-of, or-false}
-use Rattle.model.specs.declared.Answer.{Answer}
-use Rattle.model.specs.declared.Answer.the-variants as answer
+use Rattle.words.specs.declared.Answer.{Answer}
+use Rattle.words.specs.declared.Answer.the-variants as answer
 use Rattle.model.specs.Row.{Table, key, keys}
 use Rattle.model.specs.Cell.{to}
 use Rattle.model.specs.Layer.{Layer, rowsAfter}
@@ -36,9 +36,9 @@ use Rattle.text.specs.declared.Said.the-variants.{Unread, Refused}
 use Rattle.base.specs.declared.Counts.{Counts}
 use Rattle.base.specs.Base.{Sheet, sheetOf, Roomy, mostBase, baseKeys, belowLast, shut, stay, grown, baseReply, baseTaken, withRow}
 use Rattle.hear.specs.Heard.{entered, heard, withLayer, after}
-use Rattle.feed.specs.Input.{Reading, lineIn, linesIn}
+use Rattle.feed.specs.Input.{Reading, atStart, nothingRead, lineIn, linesIn}
 use Rattle.show.specs.Shown.{baseTable}
-use Rattle.console.specs.Standing.{atStart, nothingRead, sheetLayer, Standing}
+use Rattle.console.specs.Standing.{sheetLayer, Standing}
 use Rattle.show.proofs.Printed.{Columns, columns}
 
 -- ascending keys with a higher one behind them

@@ -10,15 +10,15 @@ use lib.ListN.{length, take}
 use lib.Dec.{leb}
 use borrow.Author.Tests.{leb-false}
 use Rattle.order.proofs.Tests.{or-false}
-use Rattle.model.specs.declared.Answer.{Answer}
-use Rattle.model.specs.declared.Answer.the-variants as answer
+use Rattle.words.specs.declared.Answer.{Answer}
+use Rattle.words.specs.declared.Answer.the-variants as answer
 use Rattle.model.specs.Row.{Table, keys}
 use Rattle.model.specs.Cell.{to}
 use Rattle.model.specs.Raw.{layerOf, entriesAt}
 use Rattle.model.specs.Read.{read}
 use Rattle.model.specs.Steps.{Step as Wish, adding, striking, changing, stepOn, stepBy}
 use Rattle.model.specs.Calls.{edited}
-use Rattle.model.proofs.Steps.{empty-reads}
+use Rattle.theory.proofs.Steps.{empty-reads}
 use Rattle.edit.specs.Runs.{stepAnswer}
 use Rattle.edit.proofs.Laws.{edit-reads}
 use Rattle.line.specs.declared.Line.{Line}
@@ -28,11 +28,11 @@ use Rattle.text.specs.declared.Said.the-variants.{Unread, Refused}
 use Rattle.base.specs.declared.Counts.{Counts}
 use Rattle.base.specs.Base.{Sheet, Roomy, mostBase, baseKeys, belowLast, shut, stay, grown, withRow}
 use Rattle.hear.specs.Heard.{entered, added, struck, changed, heard, withLayer, after}
-use Rattle.feed.specs.Input.{Reading, lineIn, linesIn, linesOf}
+use Rattle.feed.specs.Input.{Reading, atStart, nothingRead, lineIn, linesIn, linesOf}
 use Rattle.text.specs.Text.{header, tableText}
 use Rattle.show.specs.Shown.{rowsOf, baseTable, shownTable}
-use Rattle.console.specs.Standing.{atStart, nothingRead, sheetLayer}
-use Rattle.console.specs.Told.{deedDone, ifSilent, tableIn, printed}
+use Rattle.console.specs.Standing.{sheetLayer}
+use Rattle.console.specs.Told.{deedDone, ifSilent, tableIn, closing, printed}
 use Rattle.console.proofs.Lines.{input-heard}
 use Rattle.console.proofs.Standing.{Kept, as-long, keys-are, one-more, line-kept, start-kept}
 use Rattle.console.proofs.Whole.{whole-table-printed}
@@ -122,7 +122,7 @@ module _ (x : Sheet) (R : Roomy atStart x) where
   pub all-printed : (bs : List ℕ) →
       printed bs x
       ≡ linesIn (linesOf bs) (nothingRead x) .text ++ (header ++ tableText 0 (tableIn (linesOf bs) (nothingRead x) []))
-  unfolding printed
+  unfolding closing printed
   all-printed bs =
       let said = linesIn (linesOf bs) (nothingRead x) .text in
       rw (input-heard bs atStart x []) (ap (λ (t : List ℕ). said ++ t) (whole-table-printed x R (linesOf bs) .text)

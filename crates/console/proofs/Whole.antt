@@ -7,22 +7,22 @@ use lib.ListN.{length, take}
 use lib.Dec.{leb}
 use Rattle.order.proofs.Tests.{and-l}
 use Rattle.order.proofs.Ascending.{AscFrom, asc-of, of-asc}
-use Rattle.model.specs.declared.Answer.{Answer}
-use Rattle.model.specs.declared.Answer.the-variants as answer
+use Rattle.words.specs.declared.Answer.{Answer}
+use Rattle.words.specs.declared.Answer.the-variants as answer
 use Rattle.model.specs.Row.{Table, key, keys}
 use Rattle.model.specs.Layer.{Layer, rowsAfter}
 use Rattle.model.specs.Form.{inOrder}
-use Rattle.model.proofs.Fit.{Good, good-of, keys-length}
-use Rattle.model.proofs.Count.{read-length, read-ascends}
-use Rattle.model.proofs.Column.{Wide, read-wide}
+use Rattle.theory.proofs.Fit.{Good, good-of, keys-length}
+use Rattle.theory.proofs.Count.{read-length, read-ascends}
+use Rattle.theory.proofs.Column.{Wide, read-wide}
 use Rattle.read.proofs.Answers.{enough}
 use Rattle.fit.proofs.Answers.{fitted}
 use Rattle.base.specs.declared.Counts.{Counts}
 use Rattle.base.specs.Base.{Sheet, baseKeys, Roomy}
-use Rattle.feed.specs.Input.{bytesIn, inputEnds, linesIn, linesOf}
+use Rattle.feed.specs.Input.{atStart, nothingRead, bytesIn, inputEnds, linesIn, linesOf}
 use Rattle.text.specs.Text.{header, tableText}
 use Rattle.show.specs.Shown.{baseTable, shownTable, ending, ifFormed, Formed}
-use Rattle.console.specs.Standing.{atStart, nothingRead, sheetLayer, Standing, WholeTable}
+use Rattle.console.specs.Standing.{sheetLayer, Standing, WholeTable}
 use Rattle.show.proofs.Printed.{ReadColumns, read-columns, rows-wide}
 use Rattle.console.proofs.Lines.{input-heard}
 use Rattle.console.proofs.Standing.{sized, as-long, keys-are, always-good}

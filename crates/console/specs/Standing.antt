@@ -1,11 +1,11 @@
 -- What stands after any lines, from the empty table and layer on, and what is then printed.
 use mathlib.Core.Path.{_≡_}
-use mathlib.Core.Bool.{true, false}
-use mathlib.Core.List.{List, [], _++_, List·Memᴰ as Mem}
+use mathlib.Core.Bool.{true}
+use mathlib.Core.List.{List, _++_, List·Memᴰ as Mem}
 use Prim.Native.Nat.{ℕ, _≤_, _<_}
 use lib.ListN.{length, take}
 use Rattle.order.specs.Lists.{ascending}
-use Rattle.model.specs.declared.Answer.the-variants.{Done}
+use Rattle.words.specs.declared.Answer.the-variants.{Done}
 use Rattle.model.specs.Row.{Row, column}
 use Rattle.model.specs.Layer.{Layer}
 use Rattle.model.specs.Raw.{layerOf, room}
@@ -15,16 +15,8 @@ use Rattle.model.specs.Read.{readColumn}
 use Rattle.model.specs.Calls.{fitAnswer, readAnswer}
 use Rattle.base.specs.declared.Counts.{Counts}
 use Rattle.base.specs.Base.{Sheet, baseKeys, Roomy}
-use Rattle.feed.specs.Input.{Reading}
 use Rattle.text.specs.Text.{header, tableText}
 use Rattle.show.specs.Shown.{Formed, shownTable, ending}
-
--- before the first line: no base row, no entry, no line read, nothing said
-abbrev pub atStart : Counts
-atStart = record { rows = 0; entries = 0; edited = false; lines = 0 }
-
-abbrev pub nothingRead : Sheet → Reading
-nothingRead x = record { counts = atStart; sheet = x; line = []; text = [] }
 
 -- the layer that stands
 abbrev pub sheetLayer : Counts → Sheet → Layer

@@ -13,10 +13,9 @@ use Rattle.text.specs.declared.Said.{Said}
 use Rattle.text.specs.declared.Said.the-variants.{Nothing, Unread, Refused}
 use Rattle.base.specs.Base.{Sheet, sheetOf}
 use Rattle.hear.specs.Heard.{heard}
-use Rattle.feed.specs.Input.{Reading, lineIn, bytesIn, inputEnds}
+use Rattle.feed.specs.Input.{Reading, nothingRead, lineIn, bytesIn, inputEnds}
 use Rattle.text.specs.Text.{header}
 use Rattle.show.specs.Shown.{ending}
-use Rattle.console.specs.Standing.{nothingRead}
 
 -- a base row behind the others; a row more, in key order; row r struck; column j of row r changed
 abbrev pub deedDone : Line → Table → Table
@@ -37,9 +36,13 @@ tableIn [] i T = T
 tableIn (l ∷ ls) i T =
     tableIn ls (lineIn l i) (ifSilent (heard (lineOf l) (i .counts) (i .sheet) .said) (deedDone (lineOf l) T) T)
 
--- all that is printed for an input: what its lines say, then the table
+-- what is said once the input has ended: what its lines say, then the table
+unfoldable pub closing : Reading → List ℕ
+closing i = let j = inputEnds i in j .text ++ ending (j .counts) (j .sheet)
+
+-- all that is printed for an input
 unfoldable pub printed : List ℕ → Sheet → List ℕ
-printed bs x = let i = inputEnds (bytesIn bs (nothingRead x)) in i .text ++ ending (i .counts) (i .sheet)
+printed bs x = closing (bytesIn bs (nothingRead x))
 
 -- The scope's example, with the program's numbers, all zero before the first line.
 abbrev pub zeros : Sheet

@@ -7,9 +7,9 @@ use mathlib.Core.Bool.{true}
 use mathlib.Core.List.{List, _++_, List·Memᴰ as Mem}
 use lib.ListN.{length, drop, length-append}
 use Rattle.order.proofs.Pairs.{AllPairs}
-use Rattle.model.specs.declared.Entry.{Entry}
-use Rattle.model.specs.declared.Answer.{Answer}
-use Rattle.model.specs.declared.Answer.the-variants.{Done}
+use Rattle.words.specs.declared.Entry.{Entry}
+use Rattle.words.specs.declared.Answer.{Answer}
+use Rattle.words.specs.declared.Answer.the-variants.{Done}
 use Rattle.model.specs.Row.{Table, keys}
 use Rattle.model.specs.Layer.{Edit, Layer, rowsAfter}
 use Rattle.model.specs.Raw.{Held, entriesOf, layerOf, flat}
@@ -18,12 +18,12 @@ use Rattle.model.specs.Read.{read}
 use Rattle.model.specs.Move.{move}
 use Rattle.model.specs.Past.{Past}
 use Rattle.model.specs.Calls.{fitAnswer}
-use Rattle.model.proofs.Fit.{keys-length}
-use Rattle.model.proofs.Raw.{layer-length}
-use Rattle.model.proofs.Readback.{zeros-back}
-use Rattle.model.proofs.Count.{read-length}
-use Rattle.model.proofs.Demand3.{demand3, move-rows}
-use Rattle.model.proofs.Position as position
+use Rattle.theory.proofs.Fit.{keys-length}
+use Rattle.theory.proofs.Raw.{layer-length}
+use Rattle.theory.proofs.Readback.{zeros-back}
+use Rattle.theory.proofs.Count.{read-length}
+use Rattle.theory.proofs.Demand3.{demand3, move-rows}
+use Rattle.theory.proofs.Position as position
 use Rattle.form.proofs.Accepted.{accepts-form}
 use Rattle.fit.specs.Ready.{Ready}
 use Rattle.fit.proofs.Answers.{ready-form, ready-fits}

@@ -14,8 +14,8 @@ use denote.Triple.Clauses.{AtExit}
 use borrow.Fn.Kinds.{Dens, endedOf}
 use Rattle.order.proofs.Tests.{not-passed, and-l, and-r, and-of}
 use Rattle.order.proofs.Ascending.{asc-of}
-use Rattle.model.specs.declared.Answer.{Answer}
-use Rattle.model.specs.declared.Answer.the-variants.{Done, Refused}
+use Rattle.words.specs.declared.Answer.{Answer}
+use Rattle.words.specs.declared.Answer.the-variants.{Done, Refused}
 use Rattle.model.specs.Row.{Table, key, keys}
 use Rattle.model.specs.Layer.{Layer, rowsAfter}
 use Rattle.model.specs.Raw.{layerOf}
@@ -27,13 +27,13 @@ use Rattle.model.specs.Move.{move}
 use Rattle.model.specs.Past.{Past}
 use Rattle.model.specs.Refusals.{firstMet}
 use Rattle.model.specs.Calls.{moveRows}
-use Rattle.model.proofs.Stages.{Passed, stage-passed, all-passed, stage-done}
-use Rattle.model.proofs.Fit.{good-of}
-use Rattle.model.proofs.Count.{read-length}
-use Rattle.model.proofs.Conflict.{conflicting, of-conflicting, conflict-sym}
-use Rattle.model.proofs.Demand3.{Tested, tested-good, demand3, move-rows}
+use Rattle.theory.proofs.Stages.{Passed, stage-passed, all-passed, stage-done}
+use Rattle.theory.proofs.Fit.{good-of}
+use Rattle.theory.proofs.Count.{read-length}
+use Rattle.theory.proofs.Conflict.{conflicting, of-conflicting, conflict-sym}
+use Rattle.theory.proofs.Demand3.{Tested, tested-good, demand3, move-rows}
 use Rattle.pass.specs.Outcome.{Outcome}
-use Rattle.pass.specs.Pair.{pairForm, pairRows}
+use Rattle.pair.specs.Pair.{pairForm, pairRows}
 use Rattle.pass.proofs.Sides.{Sides, sides}
 use Rattle.pass.proofs.move_past.Kinds as move-kinds
 use Rattle.pass.proofs.move_past.Reads as move-contract

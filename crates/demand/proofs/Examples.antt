@@ -4,8 +4,8 @@ use Prim.Native.Nat.{ℕ}
 use mathlib.Core.Path.{_≡_, refl, ap, _∙_}
 use mathlib.Core.List.{List, [], _∷_, map}
 use lib.ListN.{length}
-use Rattle.model.specs.declared.Answer.{Answer}
-use Rattle.model.specs.declared.Answer.the-variants.{Done, Refused}
+use Rattle.words.specs.declared.Answer.{Answer}
+use Rattle.words.specs.declared.Answer.the-variants.{Done, Refused}
 use Rattle.model.specs.Row.{Table, key, keys}
 use Rattle.model.specs.Cell.{put}
 use Rattle.model.specs.Layer.{Layer, position}
@@ -16,7 +16,8 @@ use Rattle.model.specs.Read.{read}
 use Rattle.model.specs.Position.{rowOf}
 use Rattle.model.specs.Conflict.{conflict, conflictPlace}
 use Rattle.model.specs.Move.{addPosition}
-use Rattle.model.specs.Refusals.{refusal, breaksForm}
+use Rattle.model.specs.Refusals.{breaksForm}
+use Rattle.words.specs.Answer.{refusal}
 use Rattle.model.specs.Calls.{moveAnswer, moveSlice}
 use Rattle.model.specs.Examples.{four, Example, edits, shifts, passes, refuses, combines, examples}
 use Rattle.demand.specs.Promises.{MovesTo, StaysAt, EachOfCall}

@@ -12,9 +12,9 @@ use Rattle.order.specs.Lists.{one, ascending, count, firstAt}
 use Rattle.order.proofs.Tests.{and-of}
 use Rattle.order.proofs.Counts.{count-map, count-same}
 use Rattle.order.proofs.First.{first-passes, first-least}
-use Rattle.model.specs.declared.Answer.{Answer}
-use Rattle.model.specs.declared.Answer.the-variants.{Done, Refused}
-use Rattle.model.specs.Answer.{numberOf}
+use Rattle.words.specs.declared.Answer.{Answer}
+use Rattle.words.specs.declared.Answer.the-variants.{Done, Refused}
+use Rattle.words.specs.Answer.{numberOf}
 use Rattle.model.specs.Row.{Table, key, keys}
 use Rattle.model.specs.Cell.{to}
 use Rattle.model.specs.Layer.{add, strike, change, Edit, at, Layer, isAdd, isStrike, rowsAfter}
@@ -26,19 +26,20 @@ use Rattle.model.specs.Conflict.{clash, met, clashesWith, conflict, conflictPla
 use Rattle.model.specs.Demand.{Conflicting}
 use Rattle.model.specs.Move.{moved, move}
 use Rattle.model.specs.Past.{Past}
-use Rattle.model.specs.Refusals.{refusal, firstMet, breaksForm}
+use Rattle.model.specs.Refusals.{firstMet, breaksForm}
+use Rattle.words.specs.Answer.{refusal}
 use Rattle.model.specs.Calls.{written, movedLayer, moveRows, moveAnswer}
-use Rattle.model.proofs.Raw.{layer-length, args-held}
-use Rattle.model.proofs.Readback.{read-back}
-use Rattle.model.proofs.Count.{read-length}
-use Rattle.model.proofs.Conflict.{conflicting, of-conflicting}
-use Rattle.model.proofs.Position as position
-use Rattle.model.proofs.Demand3.{Tested, demand3}
-use Rattle.model.proofs.Stages.{stage-done}
+use Rattle.theory.proofs.Raw.{layer-length, args-held}
+use Rattle.theory.proofs.Readback.{read-back}
+use Rattle.theory.proofs.Count.{read-length}
+use Rattle.theory.proofs.Conflict.{conflicting, of-conflicting}
+use Rattle.theory.proofs.Position as position
+use Rattle.theory.proofs.Demand3.{Tested, demand3}
+use Rattle.theory.proofs.Stages.{stage-done}
 use Rattle.fit.specs.Ready.{Ready}
 use Rattle.fit.proofs.Answers.{ready-form}
 use Rattle.pass.specs.Outcome.{Outcome}
-use Rattle.pass.specs.Pair.{pairForm, pairRows}
+use Rattle.pair.specs.Pair.{pairForm, pairRows}
 use Rattle.pass.proofs.Sides.{good-side}
 use Rattle.pass.proofs.Moving.{conflict-place, Moves, moves}
 use Rattle.demand.specs.Promises.{PassesFour, Lowest, MovedPast, BothOrders}

@@ -4,8 +4,8 @@ use mathlib.Core.Bool.{true, false}
 use mathlib.Core.List.{List, [], _∷_, map}
 use Prim.Native.Nat.{ℕ, _<_}
 use lib.ListN.{length, getD}
-use Rattle.model.specs.declared.Answer.{Answer}
-use Rattle.model.specs.declared.Answer.the-variants.{Done, Refused}
+use Rattle.words.specs.declared.Answer.{Answer}
+use Rattle.words.specs.declared.Answer.the-variants.{Done, Refused}
 use Rattle.model.specs.Row.{Table, keys}
 use Rattle.model.specs.Layer.{at, strike, Layer, position}
 use Rattle.model.specs.Raw.{layerOf, flat}
@@ -15,10 +15,11 @@ use Rattle.model.specs.Read.{read}
 use Rattle.model.specs.Redo.{redo, onTable}
 use Rattle.model.specs.Conflict.{clashesWith}
 use Rattle.model.specs.Move.{move}
-use Rattle.model.specs.Refusals.{refusal, firstMet}
+use Rattle.model.specs.Refusals.{firstMet}
+use Rattle.words.specs.Answer.{refusal}
 use Rattle.model.specs.Examples.{four, Example, edits, shifts, passes, refuses, combines}
 use Rattle.pass.specs.Outcome.{Outcome}
-use Rattle.pass.specs.Pair.{pairRows}
+use Rattle.pair.specs.Pair.{pairRows}
 
 -- the input passes refusals 1 to 4
 abbrev pub PassesFour : ℕ → List ℕ → ℕ → List ℕ → ℕ → List ℕ → Type 0

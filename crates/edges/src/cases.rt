@@ -17,40 +17,27 @@ fn find(text: &[u8], from: usize, b: u8) -> usize
     i
 }
 
-// Byte i of a text that has one.
-fn byte(text: &[u8], i: usize) -> u8 {
-    if i < text.len() {
-        return text[i];
-    }
-    0
-}
-
 // The letter that tells the calls apart: the first, but of change and combine the second.
 fn letter(case: &[u8]) -> u8 {
-    let first = byte(case, 0);
-    if first == b'c' {
-        return byte(case, 1);
+    if case.len() < 2 {
+        return 0;
     }
-    first
+    if case[0] == b'c' {
+        return case[1];
+    }
+    case[0]
 }
 
-// Prints a case and what it answers.
-fn answered(case: &[u8]) {
-    io::write_all(1, case);
-    io::write_all(1, b"=");
-    let mut xs = [0u64; 16384];
-    let mut ends = [0u64; 8];
-    numbers::read(case, &mut xs, &mut ends);
-    crate::call::run(letter(case), &xs, &ends);
-    io::write_all(1, b"\n");
-}
-
-// A line's case, where it has one.
+// Prints a line's case, where it has one, and what it answers.
 fn line(text: &[u8]) {
     let e = find(text, 0, b'=');
     if e < text.len() {
         let a: usize = 0;
-        answered(&text[a..e]);
+        let behind = e + 1;
+        io::write_all(1, &text[a..behind]);
+        let case = &text[a..e];
+        crate::call::run(letter(case), case);
+        io::write_all(1, b"\n");
     }
 }
 

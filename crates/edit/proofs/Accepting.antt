@@ -13,7 +13,7 @@ use Rattle.order.specs.Lists.{any, ascending}
 use Rattle.order.proofs.Tests.{and-l, and-r}
 use Rattle.order.proofs.Members.{any-of, mem-map}
 use Rattle.order.proofs.Ascending.{AscFrom, At, asc-of, getD-at}
-use Rattle.model.specs.declared.Answer.the-variants.{Done, Refused}
+use Rattle.words.specs.declared.Answer.the-variants.{Done, Refused}
 use Rattle.model.specs.Row.{Row, Table, key, keys}
 use Rattle.model.specs.Cell.{to}
 use Rattle.model.specs.Layer.{Layer, rowsAfter}
@@ -32,11 +32,11 @@ use Rattle.model.specs.Calls.{
   changeRows,
   changeAnswer,
 }
-use Rattle.model.proofs.Fit.{Good, good-of, key-kept, keys-length, fits-all}
-use Rattle.model.proofs.Count.{read-length}
-use Rattle.model.proofs.Column.{keys-read}
-use Rattle.model.proofs.Edited.{strike-rows, change-rows}
-use Rattle.model.proofs.Stages.{Passed, stage-passed}
+use Rattle.theory.proofs.Fit.{Good, good-of, key-kept, keys-length, fits-all}
+use Rattle.theory.proofs.Count.{read-length}
+use Rattle.theory.proofs.Column.{keys-read}
+use Rattle.theory.proofs.Edited.{strike-rows, change-rows}
+use Rattle.theory.proofs.Stages.{Passed, stage-passed}
 use Rattle.form.proofs.Accepted.{Accepted, in-form-by}
 use Rattle.fit.specs.Ready.{Ready}
 use Rattle.fit.proofs.Answers.{ready-form}

@@ -15,9 +15,9 @@ use Rattle.order.specs.Lists.{inTurn}
 use Rattle.order.proofs.Tests.{and-of}
 use Rattle.order.proofs.Pairs.{pairs-weaker}
 use Rattle.order.proofs.Ascending.{of-asc}
-use Rattle.model.specs.declared.Refusal.{Refusal}
-use Rattle.model.specs.declared.Answer.{Answer}
-use Rattle.model.specs.declared.Answer.the-variants.{Done, Refused}
+use Rattle.words.specs.declared.Refusal.{Refusal}
+use Rattle.words.specs.declared.Answer.{Answer}
+use Rattle.words.specs.declared.Answer.the-variants.{Done, Refused}
 use Rattle.model.specs.Row.{Table, key, keys, column}
 use Rattle.model.specs.Layer.{Layer, rowsAfter}
 use Rattle.model.specs.Raw.{entriesAt, layerOf, flat}
@@ -27,12 +27,12 @@ use Rattle.model.specs.Read.{read}
 use Rattle.model.specs.Edits.{before}
 use Rattle.model.specs.Steps.{Step, stepOn, stepBy}
 use Rattle.model.specs.Calls.{formAnswer, fitAnswer, shownColumn, edited}
-use Rattle.model.proofs.Readback.{sound-wide, read-back, zeros-back}
-use Rattle.model.proofs.Edits.{before-follows}
-use Rattle.model.proofs.Fit.{good-form, good-fits, keys-length}
-use Rattle.model.proofs.Column.{Wide, column-read}
-use Rattle.model.proofs.Edited.{Reads}
-use Rattle.model.proofs.Steps.{empty-good, empty-reads, step-reads}
+use Rattle.theory.proofs.Readback.{sound-wide, read-back, zeros-back}
+use Rattle.theory.proofs.Edits.{before-follows}
+use Rattle.theory.proofs.Fit.{good-form, good-fits, keys-length}
+use Rattle.theory.proofs.Column.{Wide, column-read}
+use Rattle.theory.proofs.Edited.{Reads}
+use Rattle.theory.proofs.Steps.{empty-good, empty-reads, step-reads}
 use Rattle.form.specs.InForm.{InForm}
 use Rattle.form.proofs.Accepted.{accepts-form}
 use Rattle.fit.proofs.Answers.{ready-fits}

@@ -1,4 +1,3 @@
-pub mod Answers
 pub mod Accepting
 pub mod Laws
 pub mod Splices

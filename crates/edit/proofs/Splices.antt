@@ -9,19 +9,20 @@ use lib.ListN.{length, getD, take, drop, replicate}
 use Rattle.order.specs.Lists.{one}
 use Rattle.order.proofs.Ascending.{At, at-length}
 use Rattle.order.proofs.Edited.{at-head, at-tail, at-none}
-use Rattle.model.specs.declared.Answer.the-variants.{Done}
+use Rattle.words.specs.declared.Answer.the-variants.{Done}
 use Rattle.model.specs.Row.{Table, key, keys}
 use Rattle.model.specs.Cell.{CellEdit, to}
 use Rattle.model.specs.Layer.{Edit, at, add, Layer, rowsAfter}
-use Rattle.model.specs.Raw.{ADD, STRIKE, addEntry, strikeEntry, changeEntry, layerOf}
+use Rattle.model.specs.Raw.{layerOf}
+use Rattle.words.specs.Entry.{ADD, STRIKE, addEntry, strikeEntry, changeEntry}
 use Rattle.model.specs.Fit.{keysBelow}
 use Rattle.model.specs.Read.{read}
 use Rattle.model.specs.Position.{Origin, base, added, back}
 use Rattle.model.specs.Edits.{changeAddedRow, changeAdded, strikeRow, changeRowNo}
 use Rattle.model.specs.Steps.{Step, adding, striking, changing, stepOn}
-use Rattle.model.proofs.Fit.{keys-length}
-use Rattle.model.proofs.Count.{read-length}
-use Rattle.model.proofs.Origin.{Stands}
+use Rattle.theory.proofs.Fit.{keys-length}
+use Rattle.theory.proofs.Count.{read-length}
+use Rattle.theory.proofs.Origin.{Stands}
 use Rattle.write.specs.Plans.{OneSplice}
 use Rattle.write.proofs.Layers.{plan-splice}
 use Rattle.landing.specs.Landing.{aim, landing, changesFirst}

@@ -9,16 +9,16 @@ use contract.Lifetimes.{Lfts}
 use denote.Ref.{now}
 use denote.Triple.Clauses.{AtExit}
 use borrow.Fn.Kinds.{Dens, endedOf}
-use Rattle.model.specs.declared.Answer.{Answer}
+use Rattle.words.specs.declared.Answer.{Answer}
 use Rattle.model.specs.Cell.{to}
 use Rattle.model.specs.Steps.{Step, adding, striking, changing}
 use Rattle.edit.specs.Runs.{Allows}
-use Rattle.edit.proofs.add.Kinds as add-kinds
-use Rattle.edit.proofs.add.Reads as add-contract
-use Rattle.edit.proofs.strike.Kinds as strike-kinds
-use Rattle.edit.proofs.strike.Reads as strike-contract
-use Rattle.edit.proofs.change.Kinds as change-kinds
-use Rattle.edit.proofs.change.Reads as change-contract
+use Rattle.add.proofs.add.Kinds as add-kinds
+use Rattle.add.proofs.add.Reads as add-contract
+use Rattle.strike.proofs.strike.Kinds as strike-kinds
+use Rattle.strike.proofs.strike.Reads as strike-contract
+use Rattle.change.proofs.change.Kinds as change-kinds
+use Rattle.change.proofs.change.Reads as change-contract
 
 pub one-outcome : (c m : ℕ) (raw K : List ℕ) (x : Step) (r r′ : Answer) (new new′ : List ℕ)
     → Allows c m raw K x r new → Allows c m raw K x r′ new′ → (r ≡ r′) × (new ≡ new′)

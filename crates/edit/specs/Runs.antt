@@ -2,8 +2,8 @@
 use mathlib.Core.Path.{_≡_}
 use mathlib.Core.List.{List, [], _∷_}
 use Prim.Native.Nat.{ℕ}
-use Rattle.model.specs.declared.Answer.{Answer}
-use Rattle.model.specs.declared.Answer.the-variants.{Done}
+use Rattle.words.specs.declared.Answer.{Answer}
+use Rattle.words.specs.declared.Answer.the-variants.{Done}
 use Rattle.model.specs.Cell.{to}
 use Rattle.model.specs.Raw.{layerOf}
 use Rattle.model.specs.Steps.{Step, adding, striking, changing, stepOn}

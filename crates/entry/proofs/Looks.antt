@@ -11,18 +11,19 @@ use lib.ListN.{length, getD, drop, drop-of-length-le}
 use lib.Seq.{drop-cons}
 use lib.Dec.{eqb}
 use Rattle.order.proofs.Tests.{impossible}
-use Rattle.model.specs.declared.Entry.{Entry}
+use Rattle.words.specs.declared.Entry.{Entry}
 use Rattle.model.specs.Row.{Row, key}
 use Rattle.model.specs.Cell.{to}
 use Rattle.model.specs.Layer.{Edit, at, add, strike, change, Layer}
-use Rattle.model.specs.Raw.{ADD, STRIKE, columnOf, Held, entryAt, entriesOf, none, editOf, layerOf}
-use Rattle.model.proofs.Raw.{entry-at, entries-length, layer-length, within, small}
-use Rattle.model.proofs.Edits.{deedBy}
+use Rattle.model.specs.Raw.{columnOf, Held, entryAt, entriesOf, none, editOf, layerOf}
+use Rattle.words.specs.Entry.{ADD, STRIKE}
+use Rattle.theory.proofs.Raw.{entry-at, entries-length, layer-length, within, small}
+use Rattle.theory.proofs.Edits.{deedBy}
 use Rattle.entry.specs.declared.Cursor.{Cursor}
-use Rattle.entry.specs.declared.Head.{Head}
+use Rattle.head.specs.declared.Head.{Head}
 use Rattle.entry.specs.declared.Sight.{Sight}
 use Rattle.entry.specs.declared.Sight.the-variants.{End, Add, Strike, Change}
-use Rattle.entry.specs.Head.{headOf}
+use Rattle.head.specs.Head.{headOf}
 use Rattle.entry.specs.Look.{lookOf, after, Placed}
 
 map-drop : (es : List Entry) (i : ℕ) → drop i (map editOf es) ≡ map editOf (drop i es)

@@ -1,14 +1,12 @@
-// One entry of a layer: its head, what stands at a cursor, which of two entries stands first, which rule of conflict they meet.
-use model::Entry;
+// An entry as it lies in a layer's slice: its numbers, its head, and what stands at a cursor.
+use head::Head;
+use words::Entry;
 ghost use mathlib.Core.Path.{_≡_};
 ghost use Prim.Native.Nat.{_+_, _*_, _≤_, _<_};
 ghost use lib.ListN.{length, getD, drop};
 ghost use Rattle.order.specs.Lists.{one};
-ghost use Rattle.model.specs.Raw.{columnOf, Held, entryAt, layerOf};
-ghost use Rattle.model.specs.Cell.{agree};
-ghost use Rattle.model.specs.Edits.{before};
-ghost use Rattle.model.specs.Conflict.{clash, ruleNumber};
-ghost use Rattle.entry.specs.Head.{headOf, seen, cellOf};
+ghost use Rattle.model.specs.Raw.{Held, entryAt, layerOf};
+ghost use Rattle.head.specs.Head.{headOf};
 ghost use Rattle.entry.specs.Look.{lookOf, first, after};
 
 // A test as a number.
@@ -42,20 +40,6 @@ pub fn value_at(c: usize, at: usize, j: usize, layer: &[u64]) -> u64
     layer[at + 2 + j]
 }
 
-// The column that an entry of this kind changes, where it is a change.
-pub fn column_of(kind: u64) -> u64
-    ensures { λ r. ⌜ r ≡ columnOf kind ⌝ }
-{
-    kind
-}
-
-// The head of an entry: its position, its kind and its first value, which is an add's or a strike's key.
-pub struct Head {
-    pub pos: u64,
-    pub kind: u64,
-    pub first: u64,
-}
-
 // The head of the entry that stands from `at` on.
 pub fn head_at(c: usize, at: usize, layer: &[u64]) -> Head
     requires { ⌜ (at + (c + 2) ≤ length (now layer)) × (0 < c) ⌝ }
@@ -66,51 +50,6 @@ pub fn head_at(c: usize, at: usize, layer: &[u64]) -> Head
         kind: kind_at(c, at, layer),
         first: value_at(c, at, 0, layer),
     }
-}
-
-// An entry with the head d stands before one with the head e in a layer.
-pub fn stands_before(d: Head, e: Head) -> bool
-    ensures { λ r. ⌜ r ≡ before (seen d) (seen e) ⌝ }
-{
-    if d.pos < e.pos {
-        return true;
-    }
-    if d.pos != e.pos {
-        return false;
-    }
-    let adds = (e.kind != Entry::ADD) | (d.first < e.first);
-    let changes = (d.kind != Entry::STRIKE)
-        & ((e.kind != Entry::ADD) & ((e.kind != Entry::STRIKE) & (d.kind < e.kind)));
-    ((d.kind == Entry::ADD) & adds) | ((d.kind != Entry::ADD) & changes)
-}
-
-// Two changes of one cell, by their heads, pass each other: none do.
-pub fn agrees(mine: Head, theirs: Head) -> bool
-    ensures { λ r. ⌜ r ≡ agree (cellOf mine) (cellOf theirs) ⌝ }
-{
-    false
-}
-
-// The rule that two entries of one base meet: 1 a struck row, 2 a cell that both change, 3 a key that both add, 0 none.
-pub fn rule_met(mine: Head, theirs: Head) -> u64
-    ensures { λ r. ⌜ r ≡ ruleNumber (clash (seen mine) (seen theirs)) ⌝ }
-{
-    if (mine.kind == Entry::ADD) & (theirs.kind == Entry::ADD) {
-        return if mine.first == theirs.first { 3 } else { 0 };
-    }
-    if (mine.kind == Entry::ADD) | (theirs.kind == Entry::ADD) {
-        return 0;
-    }
-    if mine.pos != theirs.pos {
-        return 0;
-    }
-    if (mine.kind == Entry::STRIKE) | (theirs.kind == Entry::STRIKE) {
-        return 1;
-    }
-    if column_of(mine.kind) != column_of(theirs.kind) {
-        return 0;
-    }
-    if agrees(mine, theirs) { 0 } else { 2 }
 }
 
 // A place in a layer: entry number i, which stands from `at`.
@@ -163,5 +102,5 @@ pub fn look(c: usize, m: usize, layer: &[u64], k: Cursor) -> Sight
     if h.kind == Entry::STRIKE {
         return Sight::Strike(h.pos, h.first);
     }
-    Sight::Change(h.pos, column_of(h.kind), h.first)
+    Sight::Change(h.pos, head::column_of(h.kind), h.first)
 }

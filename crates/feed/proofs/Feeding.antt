@@ -11,8 +11,8 @@ use lib.Seq.{take-all, take-take, take-append-le, take-suc, take-suc-set, length
 use lib.Dec.{leb}
 use borrow.Author.Tests.{eq-eqb, ne-eqb, leb-false}
 use Rattle.order.proofs.Tests.{or-false}
-use Rattle.model.specs.declared.Answer.{Answer}
-use Rattle.model.specs.declared.Answer.the-variants as answer
+use Rattle.words.specs.declared.Answer.{Answer}
+use Rattle.words.specs.declared.Answer.the-variants as answer
 use Rattle.line.specs.declared.Line.{Line}
 use Rattle.line.specs.declared.Line.the-variants.{Base, Add, Strike, Change, Unreadable}
 use Rattle.line.specs.Line.{lineOf}
@@ -20,10 +20,10 @@ use Rattle.base.specs.declared.Counts.{Counts}
 use Rattle.base.specs.declared.Reply.{Reply}
 use Rattle.feed.specs.declared.Feed.{Feed}
 use Rattle.text.specs.Text.{Wrote, message}
-use Rattle.text.proofs.Writing.{wrote-before}
+use Rattle.text.proofs.Writing.{wrote-before, wrote-then}
 use Rattle.base.specs.Base.{Sheet, mostBase, shut, belowLast, baseReply, stay, grown}
 use Rattle.hear.specs.Heard.{entered, added, struck, changed, heard, Heard}
-use Rattle.feed.specs.Input.{Reading, mostKept, lineIn, byteIn, bytesIn, readingOf, lastIn, inputEnds, Took, Ended, Closed, Spacious}
+use Rattle.feed.specs.Input.{Reading, mostKept, lineIn, byteIn, bytesIn, anew, readingOf, Writes, lastIn, inputEnds, Took, Ended, Closed, Spacious, Ready}
 use Rattle.text.specs.declared.Said.the-variants.{Unread, Refused}
 
 -- a byte past the room is not kept
@@ -84,11 +84,15 @@ ended f x x′ line out out′ s q h w v l =
       counted = rw (w .reply) (c .1);
     }
 
+-- and its message stands behind what was said
+pub writes-on : {ys out new : List ℕ} {o q : ℕ} → Wrote ys out o q new → Writes o out q new
+writes-on v old w = rw (wrote-before v) (wrote-then w v)
+
 -- the input ends where no line has begun, and where one has
 pub closed-none : (f : Feed) (table layer line out : List ℕ) → f .kept ≡ 0 → f .counts .rows ≤ mostBase →
     Closed f (readingOf f table layer line out) f (readingOf f table layer line out)
 unfolding inputEnds
-closed-none f table layer line out e h = record { same = rw (e); standing = h; said = omega arith }
+closed-none f table layer line out e h = record { same = rw (e); standing = h; short = e; said = omega arith }
 
 last-line : (l : List ℕ) (i : Reading) → 0 < length l → lastIn l i ≡ lineIn l i
 last-line [] i h = absurd (omega arith)
@@ -96,7 +100,12 @@ last-line (b ∷ l) i h = refl
 
 pub closed-line : {f f′ : Feed} {i i′ : Reading} → 0 < length (i .line) → Ended f i f′ i′ → Closed f i f′ i′
 unfolding inputEnds
-closed-line {i = i} h w = record { same = w .same ∙ sym (last-line (i .line) i h); standing = w .standing; said = w .said }
+closed-line {i = i} h w = record {
+  same = w .same ∙ sym (last-line (i .line) i h);
+  standing = w .standing;
+  short = w .short;
+  said = w .said;
+}
 
 -- no byte, and one byte: a line feed, or one that is kept
 pub took-none : (f : Feed) (i : Reading) → f .counts .rows ≤ mostBase → f .kept ≤ mostKept → Took [] f i f i
@@ -128,7 +137,7 @@ took-byte f x line line′ out b kept n h k e = record {
 }
 
 -- bytes behind bytes
-bytes-then : (xs ys : List ℕ) (i : Reading) → bytesIn (xs ++ ys) i ≡ bytesIn ys (bytesIn xs i)
+pub bytes-then : (xs ys : List ℕ) (i : Reading) → bytesIn (xs ++ ys) i ≡ bytesIn ys (bytesIn xs i)
 unfolding bytesIn
 bytes-then [] ys i = refl
 bytes-then (x ∷ xs) ys i = bytes-then xs ys (byteIn x i)
@@ -149,6 +158,15 @@ took-then {xs} {ys} {f} {f′} {f″} {i} {i′} {i″} v w =
 pub took-more : {f f′ f″ : Feed} {i i′ i″ : Reading} (block : List ℕ) (k : ℕ) → k < length block → Took (take k block) f i f′ i′ →
     Took (getD block k 0 ∷ []) f′ i′ f″ i″ → Took (take (k + 1) block) f i f″ i″
 took-more block k h v w = rw (add-one k, take-suc block k 0 h) (took-then v w)
+
+-- a text that starts anew has room for a block
+pub spacious-anew : {n : ℕ} {f : Feed} → Ready n f → Spacious n (anew f)
+spacious-anew p = record {
+  standing = p .standing;
+  short = p .short;
+  inText = omega (arith, p .few);
+  countable = p .countable;
+}
 
 -- after some of n bytes there is room for the next
 pub spacious-on : {f f′ : Feed} {i i′ : Reading} (block : List ℕ) (k : ℕ) → k < length block → Spacious (length block) f →

@@ -24,16 +24,17 @@ use Rattle.order.proofs.Tests.{eqb-sym}
 use Rattle.order.proofs.Members.{any-none, mem-map}
 use Rattle.order.proofs.Pairs.{AllPairs, Unbroken, unbroken-next}
 use Rattle.order.proofs.Neighbours.{leastAfter, from-start}
-use Rattle.model.specs.declared.Entry.{Entry}
+use Rattle.words.specs.declared.Entry.{Entry}
 use Rattle.model.specs.Row.{Row, key}
 use Rattle.model.specs.Cell.{CellEdit, to}
 use Rattle.model.specs.Layer.{add, strike, change, Edit, at, Layer, position, strikesRow, struck}
-use Rattle.model.specs.Raw.{ADD, STRIKE, none, editOf}
+use Rattle.model.specs.Raw.{none, editOf}
+use Rattle.words.specs.Entry.{ADD, STRIKE}
 use Rattle.model.specs.Form.{sound, follows}
 use Rattle.model.specs.Fit.{above, suits, keysRise, rises, fitPlace}
-use Rattle.model.proofs.Layer.{struck-none}
-use Rattle.model.proofs.Position.{follows-pos as not-below}
-use Rattle.model.proofs.Edits.{before-of, before-rises, before-trans}
+use Rattle.theory.proofs.Layer.{struck-none}
+use Rattle.theory.proofs.Position.{follows-pos as not-below}
+use Rattle.theory.proofs.Edits.{before-of, before-rises, before-trans}
 use Rattle.suit.specs.Suit.{first, struckAhead, underAhead, suitsAhead, risesKind, fitFrom}
 use Rattle.form.proofs.ByKind.{editBy, one-kind}
 use Rattle.form.proofs.Formed.{Formed, past-strike}

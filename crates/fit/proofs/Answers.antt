@@ -10,18 +10,19 @@ use lib.ListN.{length}
 use lib.Dec.{ltb}
 use borrow.Author.Tests.{lt-ltb, le-ltb, eqb-true, not-false}
 use Rattle.order.specs.Lists.{ascending}
-use Rattle.model.specs.declared.Refusal.{Refusal}
-use Rattle.model.specs.declared.Answer.{Answer}
-use Rattle.model.specs.declared.Answer.the-variants.{Done, Refused}
+use Rattle.words.specs.declared.Refusal.{Refusal}
+use Rattle.words.specs.declared.Answer.{Answer}
+use Rattle.words.specs.declared.Answer.the-variants.{Done, Refused}
 use Rattle.model.specs.Layer.{Layer, rowsAfter}
 use Rattle.model.specs.Raw.{layerOf}
 use Rattle.model.specs.Form.{argsOk}
 use Rattle.model.specs.Fit.{fitPlace, fits}
-use Rattle.model.specs.Refusals.{Test, refusal, firstMet, badForm}
+use Rattle.model.specs.Refusals.{Test, firstMet, badForm}
+use Rattle.words.specs.Answer.{refusal}
 use Rattle.model.specs.Calls.{formRows, fitRows, formAnswer, readyAnswer, fitAnswer}
-use Rattle.model.proofs.Raw.{layer-length}
-use Rattle.model.proofs.Fit.{fits-all}
-use Rattle.model.proofs.Stages.{
+use Rattle.theory.proofs.Raw.{layer-length}
+use Rattle.theory.proofs.Fit.{fits-all}
+use Rattle.theory.proofs.Stages.{
   onward,
   stage,
   stage-refuses,

@@ -8,12 +8,12 @@ use mathlib.Core.Bool.{true, false}
 use mathlib.Core.List.{List, List·Memᴰ as Mem, List·Memᴰ·head as mem-here, List·Memᴰ·tail as mem-next}
 use lib.ListN.{length, getD}
 use Rattle.order.proofs.Members.{mem-map}
-use Rattle.model.specs.declared.Entry.{Entry}
+use Rattle.words.specs.declared.Entry.{Entry}
 use Rattle.model.specs.Layer.{rowsAfter}
 use Rattle.model.specs.Raw.{entryAt, entriesAt, entriesOf, editOf, layerOf}
 use Rattle.model.specs.Form.{sound}
 use Rattle.model.specs.Fit.{fitPlace}
-use Rattle.model.proofs.Raw.{start, next, rest-step}
+use Rattle.theory.proofs.Raw.{start, next, rest-step}
 use Rattle.form.specs.InForm.{InForm}
 use Rattle.suit.specs.Suit.{first, fitFrom}
 use Rattle.suit.proofs.Looks.{fine, fit-step, fit-stop, fit-end}

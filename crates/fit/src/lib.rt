@@ -1,5 +1,5 @@
 // The fit check of a layer: does it keep form and fit its key column, with the place of the least entry at fault.
-use model::Answer;
+use words::Answer;
 ghost use mathlib.Core.Path.{_≡_};
 ghost use lib.ListN.{length};
 ghost use Rattle.model.specs.Raw.{layerOf};

@@ -12,16 +12,17 @@ use Rattle.order.specs.Lists.{count}
 use Rattle.order.proofs.Tests.{impossible, and-of, or-false}
 use Rattle.order.proofs.Members.{mem-map}
 use Rattle.order.proofs.Pairs.{AllPairs, pairs-unmap, none-broken}
-use Rattle.model.specs.declared.Entry.{Entry}
-use Rattle.model.specs.declared.Refusal.{Refusal}
-use Rattle.model.specs.declared.Answer.the-variants.{Done, Refused}
+use Rattle.words.specs.declared.Entry.{Entry}
+use Rattle.words.specs.declared.Refusal.{Refusal}
+use Rattle.words.specs.declared.Answer.the-variants.{Done, Refused}
 use Rattle.model.specs.Layer.{Edit, isStrike, rowsAfter}
 use Rattle.model.specs.Raw.{Held, entriesOf, editOf, layerOf, flat}
 use Rattle.model.specs.Form.{zeros, sound, follows, formPlace, inOrder, keepsForm, argsOk}
-use Rattle.model.specs.Refusals.{refusal, breaksForm}
+use Rattle.model.specs.Refusals.{breaksForm}
+use Rattle.words.specs.Answer.{refusal}
 use Rattle.model.specs.Calls.{formAnswer}
-use Rattle.model.proofs.Raw.{entries-length, layer-length, form-place, args-held}
-use Rattle.model.proofs.Fit.{in-order}
+use Rattle.theory.proofs.Raw.{entries-length, layer-length, form-place, args-held}
+use Rattle.theory.proofs.Fit.{in-order}
 use Rattle.form.specs.InForm.{InForm}
 use Rattle.form.proofs.Formed.{Formed, Whole, whole, strikes-few}
 use Rattle.form.proofs.Flat.{flat-entries}

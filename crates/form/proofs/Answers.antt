@@ -6,15 +6,16 @@ use mathlib.Core.Path.{_≡_, refl, sym, ap, _∙_}
 use mathlib.Core.Bool.{Bool, true, false, cond, _&&_}
 use mathlib.Core.List.{List, _∷_, _++_}
 use lib.ListN.{length}
-use Rattle.model.specs.declared.Refusal.{Refusal}
-use Rattle.model.specs.declared.Answer.{Answer}
-use Rattle.model.specs.declared.Answer.the-variants.{Done, Refused}
+use Rattle.words.specs.declared.Refusal.{Refusal}
+use Rattle.words.specs.declared.Answer.{Answer}
+use Rattle.words.specs.declared.Answer.the-variants.{Done, Refused}
 use Rattle.model.specs.Layer.{rowsAfter}
 use Rattle.model.specs.Raw.{entriesOf, layerOf}
 use Rattle.model.specs.Form.{argsOk, formPlace}
-use Rattle.model.specs.Refusals.{Test, refusal, firstMet, badForm, breaksForm}
+use Rattle.model.specs.Refusals.{Test, firstMet, badForm, breaksForm}
+use Rattle.words.specs.Answer.{refusal}
 use Rattle.model.specs.Calls.{formRows, formAnswer}
-use Rattle.model.proofs.Stages.{onward, raised, stage, own-refused, own-passed}
+use Rattle.theory.proofs.Stages.{onward, raised, stage, own-refused, own-passed}
 
 -- a call whose arguments are those of the form check
 pub after-form : {A : Type 0} (refused : Refusal → A) (c n m : ℕ) (xs : List ℕ) (tests : List Test) (z : A)

@@ -9,11 +9,12 @@ use lib.ListN.{getD}
 use lib.Dec.{ltb, eqb}
 use borrow.Author.Tests.{eqb-true, lt-ltb}
 use Rattle.order.proofs.Tests.{tests, lex-cases, lex-lt, lex-eq}
-use Rattle.model.specs.declared.Entry.{Entry}
+use Rattle.words.specs.declared.Entry.{Entry}
 use Rattle.model.specs.Row.{Row}
 use Rattle.model.specs.Cell.{CellEdit, to}
 use Rattle.model.specs.Layer.{Deed, add, strike, change, Edit, at, isAdd, isStrike}
-use Rattle.model.specs.Raw.{ADD, STRIKE, editOf}
+use Rattle.model.specs.Raw.{editOf}
+use Rattle.words.specs.Entry.{ADD, STRIKE}
 use Rattle.model.specs.Form.{after, follows}
 use Rattle.form.specs.Scan.{followsKind, ofKind}
 

@@ -12,8 +12,9 @@ use lib.Dec.{eqb}
 use borrow.Author.Tests.{eqb-true}
 use Rattle.order.specs.Lists.{all, gather}
 use Rattle.order.proofs.Tests.{and-l, and-r}
-use Rattle.model.specs.declared.Entry.{Entry}
-use Rattle.model.specs.Raw.{ADD, STRIKE, entryAt, entriesAt, editOf, numbersOf}
+use Rattle.words.specs.declared.Entry.{Entry}
+use Rattle.model.specs.Raw.{entryAt, entriesAt, editOf, numbersOf}
+use Rattle.words.specs.Entry.{ADD, STRIKE}
 use Rattle.model.specs.Form.{zeros}
 use Rattle.form.proofs.ByKind.{editBy}
 use Rattle.form.proofs.Laws.{vals-length}

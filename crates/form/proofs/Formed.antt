@@ -13,15 +13,17 @@ use Rattle.order.proofs.Tests.{and-l, and-r}
 use Rattle.order.proofs.Members.{map-mem}
 use Rattle.order.proofs.Counts.{count-le, count-map, count-same}
 use Rattle.order.proofs.Pairs.{AllPairs, Unbroken, unbroken, pairs-map}
-use Rattle.model.specs.declared.Entry.{Entry}
-use Rattle.model.specs.declared.Answer.the-variants.{Done, Refused}
+use Rattle.words.specs.declared.Entry.{Entry}
+use Rattle.words.specs.declared.Answer.the-variants.{Done, Refused}
 use Rattle.model.specs.Layer.{Edit, at, add, strike, change, Layer, position, isAdd, isStrike, rowsAfter}
-use Rattle.model.specs.Raw.{ADD, STRIKE, editOf, entriesOf, layerOf}
+use Rattle.model.specs.Raw.{editOf, entriesOf, layerOf}
+use Rattle.words.specs.Entry.{ADD, STRIKE}
 use Rattle.model.specs.Form.{zeros, sound, follows, formPlace, argsOk}
-use Rattle.model.specs.Refusals.{refusal, breaksForm}
+use Rattle.model.specs.Refusals.{breaksForm}
+use Rattle.words.specs.Answer.{refusal}
 use Rattle.model.specs.Calls.{formAnswer}
-use Rattle.model.proofs.Raw.{entries-length, layer-length, args-held}
-use Rattle.model.proofs.Position.{follows-strike}
+use Rattle.theory.proofs.Raw.{entries-length, layer-length, args-held}
+use Rattle.theory.proofs.Position.{follows-strike}
 use Rattle.form.specs.Scan.{good, ofKind}
 use Rattle.form.proofs.ByKind.{add-kind, strike-kind}
 use Rattle.form.proofs.Place.{place, all-good}

@@ -11,10 +11,11 @@ use lib.Seq.{drop-cons, length-take-le}
 use lib.Dec.{leb, ltb, eqb}
 use borrow.Author.Tests.{eq-eqb}
 use Rattle.order.specs.Lists.{all}
-use Rattle.model.specs.declared.Entry.{Entry}
+use Rattle.words.specs.declared.Entry.{Entry}
 use Rattle.model.specs.Form.{sound}
-use Rattle.model.specs.Raw.{ADD, STRIKE, entryAt, entriesAt}
-use Rattle.model.proofs.Raw.{rest-step, rest-end}
+use Rattle.model.specs.Raw.{entryAt, entriesAt}
+use Rattle.words.specs.Entry.{ADD, STRIKE}
+use Rattle.theory.proofs.Raw.{rest-step, rest-end}
 use Rattle.form.specs.Scan.{aloneGood, goodAfter, goodFrom}
 use Rattle.form.proofs.ByKind.{editBy}
 

@@ -10,8 +10,9 @@ use lib.Dec.{ltb, eqb}
 use Rattle.order.proofs.Pairs.{AllPairs}
 use Rattle.order.proofs.Tests.{lex-lt}
 use Rattle.order.proofs.Neighbours.{leastAfter, from-start}
-use Rattle.model.specs.declared.Entry.{Entry}
-use Rattle.model.specs.Raw.{ADD, editOf}
+use Rattle.words.specs.declared.Entry.{Entry}
+use Rattle.model.specs.Raw.{editOf}
+use Rattle.words.specs.Entry.{ADD}
 use Rattle.model.specs.Form.{zeros, sound, follows, formPlace}
 use Rattle.form.specs.Scan.{aloneGood, goodAfter, goodFrom, good}
 use Rattle.form.proofs.ByKind.{follows-kind, follows-trans}

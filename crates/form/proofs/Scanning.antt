@@ -8,8 +8,9 @@ use mathlib.Core.Bool.{Bool, true, false}
 use mathlib.Core.List.{List, []}
 use lib.ListN.{length}
 use Rattle.order.specs.Lists.{one, count}
-use Rattle.model.specs.Raw.{ADD, STRIKE, entryAt, entriesAt, entriesOf, Held}
-use Rattle.model.proofs.Raw.{start, next}
+use Rattle.model.specs.Raw.{entryAt, entriesAt, entriesOf, Held}
+use Rattle.words.specs.Entry.{ADD, STRIKE}
+use Rattle.theory.proofs.Raw.{start, next}
 use Rattle.form.specs.Scan.{goodAfter, goodFrom, good, ofKind}
 use Rattle.form.proofs.Laws.{good-step, good-stop, good-end}
 

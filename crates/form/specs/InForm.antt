@@ -2,7 +2,7 @@
 use mathlib.Core.Path.{_≡_}
 use mathlib.Core.List.{List}
 use Prim.Native.Nat.{ℕ}
-use Rattle.model.specs.declared.Answer.the-variants.{Done}
+use Rattle.words.specs.declared.Answer.the-variants.{Done}
 use Rattle.model.specs.Layer.{rowsAfter}
 use Rattle.model.specs.Raw.{layerOf}
 use Rattle.model.specs.Calls.{formAnswer}

@@ -3,8 +3,9 @@ use mathlib.Core.Bool.{Bool, not, cond, _&&_, _||_}
 use mathlib.Core.List.{List, [], _∷_}
 use Prim.Native.Nat.{ℕ}
 use lib.Dec.{ltb, eqb}
-use Rattle.model.specs.declared.Entry.{Entry}
-use Rattle.model.specs.Raw.{ADD, STRIKE, editOf}
+use Rattle.words.specs.declared.Entry.{Entry}
+use Rattle.model.specs.Raw.{editOf}
+use Rattle.words.specs.Entry.{ADD, STRIKE}
 use Rattle.model.specs.Form.{zeros, sound}
 
 -- an entry of kind k may stand after one of kind q at the same position

@@ -1,10 +1,10 @@
 // The form check of a layer, with the place of the least entry at fault.
 mod scan;
 
-use model::Answer;
-use model::MOST_COLUMNS;
-use model::MOST_ENTRIES;
-use model::MOST_ROWS;
+use words::Answer;
+use words::MOST_COLUMNS;
+use words::MOST_ENTRIES;
+use words::MOST_ROWS;
 ghost use mathlib.Core.Path.{_≡_};
 ghost use Rattle.model.specs.Form.{argsOk};
 ghost use Rattle.model.specs.Calls.{formAnswer};

@@ -1,11 +1,12 @@
 // One pass over the entries of a layer: the first that breaks a rule of form, and the adds and strikes before it.
-use model::Entry;
+use words::Entry;
 ghost use mathlib.Core.Path.{_≡_};
 ghost use Prim.Native.Nat.{_+_, _≤_};
 ghost use lib.ListN.{length, drop};
 ghost use lib.Dec.{eqb};
 ghost use Rattle.order.specs.Lists.{all, count};
-ghost use Rattle.model.specs.Raw.{ADD, STRIKE, entryAt, entriesOf, Held};
+ghost use Rattle.model.specs.Raw.{entryAt, entriesOf, Held};
+ghost use Rattle.words.specs.Entry.{ADD, STRIKE};
 ghost use Rattle.form.specs.Scan.{followsKind, aloneGood, good, ofKind};
 
 // How many entries stand before the first that breaks a rule, and how many of them are adds and strikes.

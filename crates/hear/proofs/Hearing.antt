@@ -5,7 +5,7 @@ use mathlib.Core.List.{List, [], _∷_}
 use Prim.Native.Nat.{ℕ, _≤_}
 use lib.ListN.{take}
 use lib.Seq.{take-take}
-use Rattle.model.specs.declared.Answer.{Answer}
+use Rattle.words.specs.declared.Answer.{Answer}
 use Rattle.model.specs.Calls.{addAnswer, addSlice, strikeAnswer, strikeSlice, changeAnswer, changeSlice}
 use Rattle.line.specs.declared.Line.{Line}
 use Rattle.line.specs.declared.Line.the-variants.{Base, Add, Strike, Change, Unreadable}

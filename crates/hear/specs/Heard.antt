@@ -12,8 +12,8 @@ use Rattle.model.specs.Calls.{
   changeAnswer,
   changedLayer,
 }
-use Rattle.model.specs.declared.Answer.{Answer}
-use Rattle.model.specs.declared.Answer.the-variants as answer
+use Rattle.words.specs.declared.Answer.{Answer}
+use Rattle.words.specs.declared.Answer.the-variants as answer
 use Rattle.line.specs.declared.Line.{Line}
 use Rattle.line.specs.declared.Line.the-variants.{Base, Add, Strike, Change, Unreadable}
 use Rattle.text.specs.declared.Said.the-variants.{Nothing, Unread, Refused}

@@ -1,8 +1,8 @@
 // The three edits.
 use base::Counts;
 use base::Reply;
-use model::Answer;
 use text::Said;
+use words::Answer;
 ghost use mathlib.Core.Path.{_≡_};
 ghost use Prim.Native.Nat.{_≤_, _<_};
 ghost use Rattle.line.specs.declared.Line.the-variants.{Add, Strike, Change};
@@ -53,7 +53,7 @@ pub fn add_row(
     let row = [g, s, m];
     let n = counts.rows;
     let numbers = &table[..];
-    let answer = edit::add(3, counts.entries, layer, &numbers[..n], &row);
+    let answer = add::add(3, counts.entries, layer, &numbers[..n], &row);
     entered(counts, answer)
 }
 
@@ -65,7 +65,7 @@ pub fn strike_row(counts: Counts, r: u64, table: &[u64; 1536], layer: &mut [u64;
 {
     let n = counts.rows;
     let numbers = &table[..];
-    let answer = edit::strike(3, counts.entries, layer, &numbers[..n], r as usize);
+    let answer = strike::strike(3, counts.entries, layer, &numbers[..n], r as usize);
     entered(counts, answer)
 }
 
@@ -84,7 +84,7 @@ pub fn change_row(
 {
     let n = counts.rows;
     let numbers = &table[..];
-    let answer = edit::change(
+    let answer = change::change(
         3,
         counts.entries,
         layer,

@@ -15,12 +15,12 @@ use denote.Triple.Clauses.{AtExit}
 use borrow.Fn.Kinds.{Dens, endedOf}
 use Rattle.order.proofs.Pairs.{AllPairs, pairs-weaker}
 use Rattle.order.proofs.Ascending.{AscFrom, asc-of}
-use Rattle.model.specs.declared.Answer.{Answer}
-use Rattle.model.specs.declared.Answer.the-variants.{Done}
+use Rattle.words.specs.declared.Answer.{Answer}
+use Rattle.words.specs.declared.Answer.the-variants.{Done}
 use Rattle.model.specs.Limits.{mostRows}
 use Rattle.model.specs.Row.{Table, key, keys, column}
 use Rattle.model.specs.Layer.{Edit, Layer, rowsAfter}
-use Rattle.model.specs.declared.Entry.{Entry}
+use Rattle.words.specs.declared.Entry.{Entry}
 use Rattle.model.specs.Raw.{entriesOf, layerOf, flat}
 use Rattle.model.specs.Form.{zeros, sound, follows, inOrder, keepsForm}
 use Rattle.model.specs.Fit.{fits}
@@ -28,14 +28,14 @@ use Rattle.model.specs.Read.{read, readColumn}
 use Rattle.model.specs.Edits.{before}
 use Rattle.model.specs.Redo.{combine}
 use Rattle.model.specs.Calls.{written}
-use Rattle.model.proofs.Edits.{before-follows}
-use Rattle.model.proofs.Fit.{Good, keys-length, good-of}
-use Rattle.model.proofs.Column.{Wide, column-read, read-wide}
-use Rattle.model.proofs.Combine.{combine-good, combine-reads, combine-form, combine-fits, upper-good}
-use Rattle.model.proofs.Readback.{read-back, zeros-back, sound-wide}
+use Rattle.theory.proofs.Edits.{before-follows}
+use Rattle.theory.proofs.Fit.{Good, keys-length, good-of}
+use Rattle.theory.proofs.Column.{Wide, column-read, read-wide}
+use Rattle.theory.proofs.Combine.{combine-good, combine-reads, combine-form, combine-fits, upper-good}
+use Rattle.theory.proofs.Readback.{read-back, zeros-back, sound-wide}
 use Rattle.write.proofs.Layers.{flat-length}
-use Rattle.combine.specs.Checked.{Fits}
-use Rattle.joined.specs.Promises.{Outcome, Left, ColumnReads}
+use Rattle.stacked.specs.Checked.{Fits}
+use Rattle.joined.specs.Promises.{Combined, Left, ColumnReads}
 use Rattle.combine.proofs.combine.Kinds as combine-kinds
 use Rattle.combine.proofs.combine.Reads as combine-contract
 use Rattle.combine.proofs.Joining.{low, up, joins, rows-few, accepts, Accepts}
@@ -46,19 +46,19 @@ use Rattle.write.proofs.Laws.{in-room}
 -- the contract, as the call is proved to meet it, allows just these outcomes
 pub outcome : (κs : Lfts 4) (a : Dens κs combine-kinds.ps) (s : AtExit (endedOf 4 combine-kinds.ps combine-kinds.r) κs)
     (r : Answer) → combine-contract.Post κs a r s
-    → Outcome (a .0) (now (a .1 .0)) (a .1 .1 .0) (now (a .1 .1 .1 .0)) (a .1 .1 .1 .1 .0) (now (a .1 .1 .1 .1 .1 .0))
+    → Combined (a .0) (now (a .1 .0)) (a .1 .1 .0) (now (a .1 .1 .1 .0)) (a .1 .1 .1 .1 .0) (now (a .1 .1 .1 .1 .1 .0))
     (now (a .1 .1 .1 .1 .1 .1 .0)) r (now (s .1 .1 .1 .1 .1 .1 .0))
 outcome κs a s r p = p
 
 -- any two outcomes that it allows are one
 pub combine-unique : (c : ℕ) (K : List ℕ) (mR : ℕ) (rawR : List ℕ) (mW : ℕ) (rawW out : List ℕ) (a b : Answer)
     (out′ new : List ℕ)
-    → Outcome c K mR rawR mW rawW out a out′ → Outcome c K mR rawR mW rawW out b new → (a ≡ b) × (out′ ≡ new)
+    → Combined c K mR rawR mW rawW out a out′ → Combined c K mR rawR mW rawW out b new → (a ≡ b) × (out′ ≡ new)
 combine-unique c K mR rawR mW rawW out a b out′ new o p =
     (o .0 ∙ sym (p .0), o .1 ∙ sym (p .1))
 
 module _ (c : ℕ) (T : Table) (mR : ℕ) (rawR : List ℕ) (mW : ℕ) (rawW out : List ℕ) (a : Answer) (out′ : List ℕ)
-    (o : Outcome c (keys T) mR rawR mW rawW out a out′) (m : ℕ) (done : a ≡ Done m) where
+    (o : Combined c (keys T) mR rawR mW rawW out a out′) (m : ℕ) (done : a ≡ Done m) where
   abbrev K : List ℕ
   K = keys T
 

@@ -4,8 +4,8 @@ use mathlib.Core.Bool.{true}
 use mathlib.Core.List.{List, [], _∷_, _++_}
 use Prim.Native.Nat.{ℕ, _*_, _+_, _≤_, _<_}
 use lib.ListN.{length, drop}
-use Rattle.model.specs.declared.Answer.{Answer}
-use Rattle.model.specs.declared.Answer.the-variants.{Done}
+use Rattle.words.specs.declared.Answer.{Answer}
+use Rattle.words.specs.declared.Answer.the-variants.{Done}
 use Rattle.model.specs.Row.{Table, column, keys}
 use Rattle.model.specs.Layer.{Layer}
 use Rattle.model.specs.Raw.{layerOf, flat}
@@ -17,8 +17,8 @@ use Rattle.model.specs.Calls.{fitAnswer, combineAnswer, combineSlice}
 use Rattle.model.specs.Examples.{four, Example, edits, shifts, passes, refuses, combines}
 
 -- the contract of `combine`: the answer a, and what the third slice holds afterwards
-abbrev pub Outcome : ℕ → List ℕ → ℕ → List ℕ → ℕ → List ℕ → List ℕ → Answer → List ℕ → Type 0
-Outcome c K mR rawR mW rawW out a out′ =
+abbrev pub Combined : ℕ → List ℕ → ℕ → List ℕ → ℕ → List ℕ → List ℕ → Answer → List ℕ → Type 0
+Combined c K mR rawR mW rawW out a out′ =
     (a ≡ combineAnswer c K mR rawR mW rawW (length out)) × (out′ ≡ combineSlice c K mR rawR mW rawW out)
 
 -- the m entries at the front of the third slice are the combination of R and W: it keeps form and fits, the fit call
@@ -39,7 +39,7 @@ ColumnReads c m T R W out′ =
 -- in the base of the examples R and W are combined into L, wherever there is room for it
 abbrev pub CombinesTo : Layer → Layer → Layer → Type 0
 CombinesTo R W L = (out : List ℕ) (a : Answer) (out′ : List ℕ) → length L * 4 ≤ length out
-    → Outcome 2 (keys four) (length R) (flat 2 R) (length W) (flat 2 W) out a out′
+    → Combined 2 (keys four) (length R) (flat 2 R) (length W) (flat 2 W) out a out′
     → (a ≡ Done (length L)) × (out′ ≡ flat 2 L ++ drop (length (flat 2 L)) out)
 
 -- what the lines of a table of examples say of the call; E12 is the lines of the last kind

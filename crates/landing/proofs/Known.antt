@@ -9,8 +9,8 @@ use Rattle.order.proofs.Ascending.{AscFrom, asc-of}
 use Rattle.model.specs.Row.{key}
 use Rattle.model.specs.Layer.{rowsAfter}
 use Rattle.model.specs.Raw.{layerOf}
-use Rattle.model.proofs.Fit.{Good, good-of}
-use Rattle.model.proofs.Column.{singles, keys-singles, singles-length}
+use Rattle.theory.proofs.Fit.{Good, good-of}
+use Rattle.theory.proofs.Column.{singles, keys-singles, singles-length}
 use Rattle.form.proofs.Accepted.{Accepted}
 use Rattle.fit.specs.Ready.{Ready}
 use Rattle.fit.proofs.Answers.{ready-form}

@@ -15,7 +15,7 @@ use Rattle.model.specs.Cell.{to}
 use Rattle.model.specs.Layer.{Edit, Layer, at, add, strike, change}
 use Rattle.model.specs.Raw.{entryAt, editOf, layerOf}
 use Rattle.model.specs.Edits.{before}
-use Rattle.model.proofs.Edits.{before-trans}
+use Rattle.theory.proofs.Edits.{before-trans}
 use Rattle.entry.specs.declared.Sight.{Sight}
 use Rattle.entry.specs.declared.Sight.the-variants.{End, Add, Strike, Change}
 use Rattle.entry.specs.Look.{lookOf}

@@ -28,16 +28,17 @@ use Rattle.order.proofs.Ascending.{At, below, at-mem, at-count, at-length, getD
 use Rattle.order.proofs.Splice.{drop-mem, pairs-drop}
 use Rattle.model.specs.Row.{Row, Table, key, keys}
 use Rattle.model.specs.Layer.{Deed, add, strike, change, Edit, at, Layer, struck, changed}
-use Rattle.model.specs.Raw.{ADD, layerOf}
+use Rattle.model.specs.Raw.{layerOf}
+use Rattle.words.specs.Entry.{ADD}
 use Rattle.model.specs.Fit.{keysBelow}
 use Rattle.model.specs.Read.{read, keysAfter}
 use Rattle.model.specs.Refusals.{shownKey}
 use Rattle.model.specs.Edits.{deedBefore, before}
-use Rattle.model.proofs.Edits.{before-cases, before-lt, before-eq, before-asym, before-key}
-use Rattle.model.proofs.Layer.{of-struck, struck-of, changed-key}
-use Rattle.model.proofs.Read.{Shown, shown, shows-row, shows-add}
-use Rattle.model.proofs.Fit.{Fit, key-kept, key-of, below-keys}
-use Rattle.model.proofs.Column.{keys-read, singles, keys-singles, singles-length}
+use Rattle.theory.proofs.Edits.{before-cases, before-lt, before-eq, before-asym, before-key}
+use Rattle.theory.proofs.Layer.{of-struck, struck-of, changed-key}
+use Rattle.theory.proofs.Read.{Shown, shown, shows-row, shows-add}
+use Rattle.theory.proofs.Fit.{Fit, key-kept, key-of, below-keys}
+use Rattle.theory.proofs.Column.{keys-read, singles, keys-singles, singles-length}
 use Rattle.entry.specs.declared.Sight.{Sight}
 use Rattle.entry.specs.declared.Sight.the-variants.{Add, Strike}
 use Rattle.entry.specs.Look.{lookOf}

@@ -7,7 +7,7 @@ use lib.Dec.{ltb, eqb}
 use Rattle.order.specs.Lists.{firstAt}
 use Rattle.model.specs.Layer.{Edit, Layer, changesCell}
 use Rattle.model.specs.Edits.{before}
-use Rattle.entry.specs.Head.{seen}
+use Rattle.head.specs.Head.{seen}
 
 -- what the order looks at of an edit: its position, its kind, and the key of an added row
 abbrev pub aim : ℕ → ℕ → ℕ → Edit

@@ -1,11 +1,12 @@
 // Where an edit lands among the entries of a layer, and what stands there: the change that it replaces, a shown key.
 use entry::Cursor;
-use entry::Head;
 use entry::Sight;
+use head::Head;
 ghost use mathlib.Core.Path.{_≡_};
 ghost use Prim.Native.Nat.{_≤_};
 ghost use lib.ListN.{drop};
-ghost use Rattle.model.specs.Raw.{ADD, Held, layerOf};
+ghost use Rattle.model.specs.Raw.{Held, layerOf};
+ghost use Rattle.words.specs.Entry.{ADD};
 ghost use Rattle.model.specs.Fit.{keysBelow};
 ghost use Rattle.model.specs.Read.{keysAfter};
 ghost use Rattle.model.specs.Refusals.{shownKey};
@@ -25,7 +26,7 @@ pub fn landing(c: usize, m: usize, layer: &[u64], s: u64, kind: u64, first: u64)
     let mut k = Cursor::first();
     while k.i < m {
         let d = entry::head_at(c, k.at, layer);
-        if !entry::stands_before(d, e) {
+        if !head::stands_before(d, e) {
             return k.i;
         }
         k = k.next(c);

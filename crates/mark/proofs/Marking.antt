@@ -17,7 +17,7 @@ use Rattle.model.specs.Cell.{to}
 use Rattle.model.specs.Row.{key}
 use Rattle.model.specs.Layer.{at, add, strike, change, Edit, Layer}
 use Rattle.model.specs.Position.{base, added}
-use Rattle.model.proofs.Origin.{addedRow}
+use Rattle.theory.proofs.Origin.{addedRow}
 use Rattle.entry.specs.Look.{lookOf}
 use Rattle.entry.proofs.Looks.{after-placed}
 use Rattle.mark.specs.declared.Mark.{Mark}

@@ -30,8 +30,8 @@ use Rattle.order.proofs.Pairs.{AllPairs}
 use Rattle.model.specs.Layer.{Deed, Edit, at, add, strike, change, Layer, position, isAdd, isStrike, rowsAfter, struck}
 use Rattle.model.specs.Form.{sound, follows, inOrder}
 use Rattle.model.specs.Position.{addUpTo, strikeBefore, rowOf, base, added, back}
-use Rattle.model.proofs.Layer.{struck-none, adds-same, adds-zero, strikes-same, strikes-zero}
-use Rattle.model.proofs.Position.{
+use Rattle.theory.proofs.Layer.{struck-none, adds-same, adds-zero, strikes-same, strikes-zero}
+use Rattle.theory.proofs.Position.{
   formed,
   pairs-at,
   follows-pos,

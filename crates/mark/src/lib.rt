@@ -1,7 +1,7 @@
 // The way from a row number to what stands there, resumable: the mark of one row serves to find that of a later one.
 use entry::Cursor;
 use entry::Sight;
-use model::Back;
+use words::Back;
 ghost use mathlib.Core.Path.{_≡_};
 ghost use mathlib.Core.Bool.{true};
 ghost use Prim.Native.Nat.{_+_, _*_, _≤_, _<_};

@@ -8,17 +8,18 @@ use native.Mathlib.Omega.{arith}
 use lib.ListN.{length, getD}
 use lib.Dec.{leb, ltb, eqb}
 use borrow.Author.Tests.{leb-true, ltb-true}
-use Rattle.order.proofs.Tests.{tests, and-l}
-use Rattle.model.specs.declared.Entry.{Entry}
+use Rattle.order.proofs.Tests.{and-l}
+use Rattle.words.specs.declared.Entry.{Entry}
 use Rattle.model.specs.Row.{key}
 use Rattle.model.specs.Cell.{to}
 use Rattle.model.specs.Layer.{add, strike, change}
 use Rattle.model.specs.Form.{sound}
-use Rattle.model.specs.Raw.{ADD, STRIKE, deedOf, editOf}
+use Rattle.model.specs.Raw.{deedOf, editOf}
+use Rattle.words.specs.Entry.{ADD, STRIKE}
 use Rattle.model.specs.Meaning.{keyOf}
-use Rattle.entry.specs.Head.{headOf}
+use Rattle.head.specs.Head.{headOf}
 use Rattle.form.proofs.ByKind.{editBy}
-use Rattle.woven.specs.declared.Meets.the-variants.{Lower, UpperHere, Drop, Vanish, Patch}
+use Rattle.woven.specs.declared.Meets.the-variants.{Lower, UpperHere, Drop, Vanish, Patch, Fuse}
 use Rattle.woven.specs.Woven.{meet, meetKinds}
 use Rattle.meet.specs.Meet.{keyIn, Keyed}
 
@@ -27,7 +28,7 @@ pub meet-kinds : (d q : ℕ) (vs us : List ℕ) → meetKinds d q ≡ meet (deed
 meet-kinds d q vs us = go (eqb q ADD) (eqb d ADD) (eqb q STRIKE) (eqb d STRIKE) (ltb d q) refl (eqb d q) refl
   where
     go : (a b x y l : Bool) → ltb d q ≡ l → (m : Bool) → eqb d q ≡ m
-        → cond a UpperHere (cond b (cond x Vanish Patch) (cond (x || (y || m)) Drop (cond l Lower UpperHere)))
+        → cond a UpperHere (cond b (cond x Vanish Patch) (cond (x || y) Drop (cond l Lower (cond m Fuse UpperHere))))
         ≡ meet (cond b (add vs) (cond y (strike (getD vs 0 0)) (change d (to (getD vs 0 0)))))
         (cond a (add us) (cond x (strike (getD us 0 0)) (change q (to (getD us 0 0)))))
     go true true x y l e m f = refl
@@ -38,8 +39,7 @@ meet-kinds d q vs us = go (eqb q ADD) (eqb d ADD) (eqb q STRIKE) (eqb d STRIKE) 
     go false false true true l e m f = refl
     go false false true false l e m f = refl
     go false false false true l e m f = refl
-    go false false false false true e true f = absurd (omega tests)
-    go false false false false true e false f = rw (e)
+    go false false false false true e m f = rw (e)
     go false false false false false e true f = rw (e, f)
     go false false false false false e false f = rw (e, f)
 

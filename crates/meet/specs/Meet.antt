@@ -5,8 +5,8 @@ use mathlib.Core.List.{List}
 use Prim.Native.Nat.{ℕ, _<_}
 use lib.ListN.{getD}
 use lib.Dec.{ltb, eqb}
-use Rattle.model.specs.Raw.{ADD, STRIKE}
-use Rattle.entry.specs.declared.Head.{Head}
+use Rattle.words.specs.Entry.{ADD, STRIKE}
+use Rattle.head.specs.declared.Head.{Head}
 use Rattle.woven.specs.declared.Meets.{Meets}
 use Rattle.woven.specs.declared.Meets.the-variants.{Lower, Upper}
 use Rattle.woven.specs.Woven.{meetKinds}

@@ -1,8 +1,8 @@
 // What the next entries of two layers make of each other: by the keys that they concern, then by their kinds.
 use entry::Cursor;
-use entry::Head;
 use entry::Sight;
-use model::Entry;
+use head::Head;
+use words::Entry;
 use woven::Meets;
 ghost use mathlib.Core.Path.{_≡_};
 ghost use Prim.Native.Nat.{_+_, _*_, _≤_};
@@ -24,11 +24,14 @@ fn meeting(d: u64, q: u64) -> Meets
         }
         return Meets::Patch;
     }
-    if (q == Entry::STRIKE) | ((d == Entry::STRIKE) | (d == q)) {
+    if (q == Entry::STRIKE) | (d == Entry::STRIKE) {
         return Meets::Drop;
     }
     if d < q {
         return Meets::Lower;
+    }
+    if d == q {
+        return Meets::Fuse;
     }
     Meets::UpperHere
 }

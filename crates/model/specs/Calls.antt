@@ -4,12 +4,12 @@ use mathlib.Core.List.{List, [], _∷_, _++_}
 use Prim.Native.Nat.{ℕ, _+_, _-_, _*_, max}
 use lib.ListN.{length, take, drop, replicate}
 use lib.Dec.{leb, ltb, eqb}
-use Rattle.model.specs.declared.Answer.{Answer}
-use Rattle.model.specs.declared.Answer.the-variants.{Done, Refused}
-use Rattle.model.specs.declared.Shifted.{Shifted}
-use Rattle.model.specs.declared.Shifted.the-variants as shifted
-use Rattle.model.specs.declared.Back.{Back}
-use Rattle.model.specs.declared.Back.the-variants as backed
+use Rattle.words.specs.declared.Answer.{Answer}
+use Rattle.words.specs.declared.Answer.the-variants.{Done, Refused}
+use Rattle.words.specs.declared.Shifted.{Shifted}
+use Rattle.words.specs.declared.Shifted.the-variants as shifted
+use Rattle.words.specs.declared.Back.{Back}
+use Rattle.words.specs.declared.Back.the-variants as backed
 use Rattle.model.specs.Row.{Row, key}
 use Rattle.model.specs.Cell.{CellEdit, to}
 use Rattle.model.specs.Layer.{Layer, rowsAfter}

@@ -12,6 +12,10 @@ pub data CellEdit : Type 0 where
 abbrev pub done : CellEdit → ℕ → ℕ
 done (to v) old = v
 
+-- the later edit done after the earlier, as one edit
+abbrev pub over : CellEdit → CellEdit → CellEdit
+over (to v) f = to v
+
 -- two edits of one cell that pass each other: none, not even two to the same value
 abbrev pub agree : CellEdit → CellEdit → Bool
 agree (to v) (to w) = false

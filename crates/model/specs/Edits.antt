@@ -1,12 +1,12 @@
 -- The three edits as new layers: an entry goes where its position, kind, key or column puts it.
-use mathlib.Core.Bool.{Bool, true, false, not, _&&_, _||_}
+use mathlib.Core.Bool.{Bool, true, false, not, cond, _&&_, _||_}
 use mathlib.Core.List.{List, [], _∷_}
 use Prim.Native.Nat.{ℕ, zero, suc}
 use lib.ListN.{length, getD}
 use lib.Dec.{ltb, eqb}
 use Rattle.order.specs.Lists.{filter, insert, without}
 use Rattle.model.specs.Row.{Row, key}
-use Rattle.model.specs.Cell.{CellEdit, put}
+use Rattle.model.specs.Cell.{CellEdit, over, put}
 use Rattle.model.specs.Layer.{Deed, add, strike, change, Edit, at, Layer, changesRow, changesCell}
 use Rattle.model.specs.Fit.{keysBelow}
 use Rattle.model.specs.Read.{keysAfter}
@@ -37,9 +37,19 @@ addRow K r L = enter (at (keysBelow (key r) K) (add r)) L
 unfoldable pub strikeBase : List ℕ → ℕ → Layer → Layer
 strikeBase K s L = enter (at s (strike (getD K s 0))) (filter (λ e. not (changesRow s e)) L)
 
--- change column j of base row s: its change of j is replaced or entered in column order
+-- an edit of column j over what a deed does to that column; over all that a layer does to it in base row s
+abbrev pub overDeed : ℕ → CellEdit → Deed → CellEdit
+overDeed j e (add r) = e
+overDeed j e (strike k) = e
+overDeed j e (change i f) = cond (eqb j i) (over e f) e
+
+abbrev pub composed : ℕ → ℕ → CellEdit → Layer → CellEdit
+composed s j e [] = e
+composed s j e (at p d ∷ L) = cond (eqb s p) (overDeed j (composed s j e L) d) (composed s j e L)
+
+-- change column j of base row s: over its change of j, in that one's place, or entered in column order
 unfoldable pub changeBase : ℕ → ℕ → CellEdit → Layer → Layer
-changeBase s j e L = enter (at s (change j e)) (filter (λ d. not (changesCell s j d)) L)
+changeBase s j e L = enter (at s (change j (composed s j e L))) (filter (λ d. not (changesCell s j d)) L)
 
 -- change column j of the added entry number i: its value is replaced
 abbrev pub changeAddedRow : ℕ → CellEdit → Edit → Edit

@@ -5,10 +5,11 @@ use Prim.Native.Nat.{ℕ, _+_, _*_}
 use lib.ListN.{length, drop}
 use lib.Dec.{leb, ltb, eqb}
 use Rattle.order.specs.Lists.{all, leastBroken}
-use Rattle.model.specs.declared.Entry.{Entry}
+use Rattle.words.specs.declared.Entry.{Entry}
 use Rattle.model.specs.Limits.{mostColumns, mostEntries, mostRows}
 use Rattle.model.specs.Layer.{Deed, add, strike, change, Edit, at, Layer, rowsAfter}
-use Rattle.model.specs.Raw.{ADD, editOf}
+use Rattle.model.specs.Raw.{editOf}
+use Rattle.words.specs.Entry.{ADD}
 
 -- Alone. Positions are at most n; strikes and changes stand only below n; a change is of column 1 to c - 1; an added row is c long.
 abbrev pub sound : ℕ → ℕ → Edit → Bool

@@ -15,7 +15,6 @@ pub mod Move
 pub mod Demand
 pub mod Past
 pub mod Meaning
-pub mod Answer
 pub mod Refusals
 pub mod Calls
 pub mod Examples

@@ -5,27 +5,11 @@ use Prim.Native.Nat.{ℕ, zero, suc, _+_, _-_, _*_, _≤_, min, _/_}
 use lib.ListN.{length, getD, take, drop, replicate}
 use lib.Dec.{eqb}
 use Rattle.order.specs.Lists.{gather}
-use Rattle.model.specs.declared.Entry.{Entry}
+use Rattle.words.specs.declared.Entry.{Entry}
+use Rattle.words.specs.Entry.{ADD, STRIKE}
 use Rattle.model.specs.Limits.{mostColumns, mostEntries}
 use Rattle.model.specs.Cell.{to}
 use Rattle.model.specs.Layer.{Deed, add, strike, change, Edit, at, Layer}
-
--- the kind numbers
-abbrev pub ADD : ℕ
-ADD = 65535
-
-abbrev pub STRIKE : ℕ
-STRIKE = 65534
-
--- an entry of each kind, of eight values
-abbrev pub addEntry : ℕ → List ℕ → Entry
-addEntry s row = record { pos = s; kind = ADD; vals = row }
-
-abbrev pub strikeEntry : ℕ → ℕ → Entry
-strikeEntry s k = record { pos = s; kind = STRIKE; vals = k ∷ replicate 7 0 }
-
-abbrev pub changeEntry : ℕ → ℕ → ℕ → Entry
-changeEntry s j v = record { pos = s; kind = j; vals = v ∷ replicate 7 0 }
 
 -- the entry whose first number stands at `from`
 abbrev pub entryAt : ℕ → ℕ → List ℕ → Entry

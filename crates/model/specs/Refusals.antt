@@ -5,7 +5,8 @@ use Prim.Native.Nat.{ℕ, _+_}
 use lib.ListN.{length}
 use lib.Dec.{ltb, leb, eqb}
 use Rattle.order.specs.Lists.{ascending, any}
-use Rattle.model.specs.declared.Refusal.{Refusal}
+use Rattle.words.specs.declared.Refusal.{Refusal}
+use Rattle.words.specs.Answer.{refusal}
 use Rattle.model.specs.Limits.{mostRows}
 use Rattle.model.specs.Layer.{Layer, rowsAfter}
 use Rattle.model.specs.Raw.{entriesOf, layerOf, room}
@@ -15,9 +16,6 @@ use Rattle.model.specs.Fit.{fitPlace}
 -- refuse with this number, at this place, where the test is met
 pub data Test : Type 0 where
   refuse : ℕ → ℕ → Bool → Test
-
-abbrev pub refusal : ℕ → ℕ → Refusal
-refusal number place = record { number = number; place = place }
 
 module _ {A : Type 0} where
   -- the first refusal that is met, in the order of the list, else the result

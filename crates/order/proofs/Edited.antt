@@ -126,18 +126,6 @@ module _ {A B : Type 0} where
         go ih true = ih
         go ih false = turn-past f (f e) (x ∷ xs) b h
 
-    -- and before it a step that it undoes may be left out
-    pub turn-absorb : (g : A → Bool) (xs : List A) → ((x : A) → g x ≡ true → (c : B) → f x (f e c) ≡ f e (f x c))
-        → ((x : A) → g x ≡ false → (c : B) → f e (f x c) ≡ f e c) → (b c : B) → f e b ≡ f e c
-        → f e (inTurn f (filter g xs) b) ≡ f e (inTurn f xs c)
-    turn-absorb g [] trades undone b c h = h
-    turn-absorb g (x ∷ xs) trades undone b c h = go (turn-absorb g xs trades undone) (g x) refl
-      where
-        go : ((b c : B) → f e b ≡ f e c → f e (inTurn f (filter g xs) b) ≡ f e (inTurn f xs c)) → (t : Bool) → g x ≡ t
-            → f e (inTurn f (cond t (x ∷ filter g xs) (filter g xs)) b) ≡ f e (inTurn f xs (f x c))
-        go ih true k = ih (f x b) (f x c) (sym (trades x k b) ∙ (ap (f x) h ∙ trades x k c))
-        go ih false k = ih b (f x c) (h ∙ sym (undone x k c))
-
   -- a walk passes over elements that do nothing
   pub turn-filter : (f : A → B → B) (g : A → Bool) (xs : List A) (b : B) → ((x : A) → g x ≡ false → (c : B) → f x c ≡ c)
       → inTurn f (filter g xs) b ≡ inTurn f xs b

@@ -7,14 +7,15 @@ use Prim.Native.Nat.{ℕ, _-_}
 use lib.ListN.{length, getD}
 use lib.Dec.{eqb}
 use borrow.Author.Tests.{eqb-true, eqb-false, eq-eqb, ne-eqb}
-use Rattle.model.specs.declared.Entry.{Entry}
+use Rattle.words.specs.declared.Entry.{Entry}
 use Rattle.model.specs.Row.{key}
 use Rattle.model.specs.Layer.{at}
-use Rattle.model.specs.Raw.{ADD, STRIKE, editOf}
+use Rattle.model.specs.Raw.{editOf}
+use Rattle.words.specs.Entry.{ADD, STRIKE}
 use Rattle.model.specs.Meaning.{keyOf}
-use Rattle.model.proofs.Edits.{deedBy}
-use Rattle.entry.specs.declared.Head.{Head}
-use Rattle.entry.specs.Head.{headOf}
+use Rattle.theory.proofs.Edits.{deedBy}
+use Rattle.head.specs.declared.Head.{Head}
+use Rattle.head.specs.Head.{headOf}
 use Rattle.suit.specs.Suit.{first, suitsAhead, addFits, fitsAfter}
 use Rattle.suit.proofs.Looks.{add-fits, suits-strike, suits-change, rises-other}
 use Rattle.over.specs.Over.{fitsBy, namedBy}

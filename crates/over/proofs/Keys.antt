@@ -14,11 +14,11 @@ use Rattle.model.specs.Layer.{add, change, at, Layer, rowsAfter}
 use Rattle.model.specs.Raw.{layerOf}
 use Rattle.model.specs.Read.{keysAfter}
 use Rattle.model.specs.Position.{Origin, base, added, origins, back}
-use Rattle.model.proofs.Layer.{KeyKept, changed-key}
-use Rattle.model.proofs.Column.{keys-read, singles, keys-singles, singles-length}
-use Rattle.model.proofs.Fit.{keys-at}
-use Rattle.model.proofs.Origin.{addedRow, originRow, read-origins}
-use Rattle.model.proofs.Position.{rows-counted}
+use Rattle.theory.proofs.Layer.{KeyKept, changed-key}
+use Rattle.theory.proofs.Column.{keys-read, singles, keys-singles, singles-length}
+use Rattle.theory.proofs.Fit.{keys-at}
+use Rattle.theory.proofs.Origin.{addedRow, originRow, read-origins}
+use Rattle.theory.proofs.Position.{rows-counted}
 use Rattle.form.specs.InForm.{InForm}
 use Rattle.form.proofs.Accepted.{Accepted, accepted}
 use Rattle.mark.specs.declared.Mark.{Mark}

@@ -10,14 +10,15 @@ use lib.ListN.{length, getD, set, length-set}
 use lib.Seq.{getD-set-same, getD-set-other}
 use lib.Dec.{eqb}
 use borrow.Author.Tests.{eqb-true, eqb-false}
-use Rattle.model.specs.declared.Entry.{Entry}
+use Rattle.words.specs.declared.Entry.{Entry}
 use Rattle.model.specs.Layer.{at, rowsAfter}
-use Rattle.model.specs.Raw.{ADD, entryAt, entriesAt, editOf, layerOf}
+use Rattle.model.specs.Raw.{entryAt, entriesAt, editOf, layerOf}
+use Rattle.words.specs.Entry.{ADD}
 use Rattle.model.specs.Meaning.{keyOf}
 use Rattle.model.specs.Fit.{fitPlace}
-use Rattle.model.proofs.Raw as raw
-use Rattle.entry.specs.declared.Head.{Head}
-use Rattle.entry.specs.Head.{headOf}
+use Rattle.theory.proofs.Raw as raw
+use Rattle.head.specs.declared.Head.{Head}
+use Rattle.head.specs.Head.{headOf}
 use Rattle.entry.proofs.Looks.{after-placed}
 use Rattle.form.specs.InForm.{InForm}
 use Rattle.form.proofs.Accepted.{Accepted, accepted}

@@ -5,12 +5,13 @@ use mathlib.Core.List.{List}
 use Prim.Native.Nat.{ℕ, _+_, _*_, _≤_, _<_}
 use lib.ListN.{length, getD}
 use lib.Dec.{eqb}
-use Rattle.model.specs.declared.Entry.{Entry}
+use Rattle.words.specs.declared.Entry.{Entry}
 use Rattle.model.specs.Layer.{rowsAfter}
-use Rattle.model.specs.Raw.{ADD, STRIKE, entryAt, editOf, layerOf}
+use Rattle.model.specs.Raw.{entryAt, editOf, layerOf}
+use Rattle.words.specs.Entry.{ADD, STRIKE}
 use Rattle.model.specs.Read.{keysAfter}
 use Rattle.model.specs.Meaning.{keyOf}
-use Rattle.entry.specs.declared.Head.{Head}
+use Rattle.head.specs.declared.Head.{Head}
 use Rattle.form.specs.InForm.{InForm}
 use Rattle.suit.specs.Suit.{first, addFits}
 

@@ -1,15 +1,16 @@
 // The keys that a lower layer leaves, found along an upper one: two marks in the lower layer move on with its rows.
-use entry::Head;
+use head::Head;
 use mark::Mark;
 use mark::Way;
-use model::Entry;
+use words::Entry;
 ghost use mathlib.Core.Path.{_≡_};
 ghost use Prim.Native.Nat.{_+_, _*_, _-_, _≤_, _<_};
 ghost use lib.ListN.{length, getD};
-ghost use Rattle.model.specs.Raw.{ADD, entryAt, entriesAt, layerOf};
+ghost use Rattle.model.specs.Raw.{entryAt, entriesAt, layerOf};
+ghost use Rattle.words.specs.Entry.{ADD};
 ghost use Rattle.model.specs.Fit.{fitPlace};
 ghost use Rattle.form.specs.InForm.{InForm};
-ghost use Rattle.entry.specs.Head.{headOf};
+ghost use Rattle.head.specs.Head.{headOf};
 ghost use Rattle.mark.specs.Walk.{Stays, wayAt, Marks};
 ghost use Rattle.over.specs.Over.{over, fitsBy, namedBy, Named, Over};
 

@@ -9,20 +9,21 @@ use lib.ListN.{length, drop}
 use lib.Dec.{ltb}
 use borrow.Author.Tests.{ltb-false, lt-ltb, le-ltb}
 use Rattle.order.proofs.First.{any-first}
-use Rattle.model.specs.declared.Refusal.{Refusal}
-use Rattle.model.specs.declared.Answer.{Answer}
-use Rattle.model.specs.declared.Answer.the-variants.{Done, Refused}
+use Rattle.words.specs.declared.Refusal.{Refusal}
+use Rattle.words.specs.declared.Answer.{Answer}
+use Rattle.words.specs.declared.Answer.the-variants.{Done, Refused}
 use Rattle.model.specs.Layer.{Layer, rowsAfter}
 use Rattle.model.specs.Raw.{layerOf, flat}
 use Rattle.model.specs.Conflict.{clashesWith, conflict, conflictPlace}
-use Rattle.model.specs.Refusals.{refusal, firstMet}
+use Rattle.model.specs.Refusals.{firstMet}
+use Rattle.words.specs.Answer.{refusal}
 use Rattle.model.specs.Calls.{written, movedLayer, moveRows, moveAnswer}
-use Rattle.model.proofs.Raw.{layer-length}
-use Rattle.model.proofs.Stages.{stage, stage-refuses, stage-done, stage-passed, reached}
+use Rattle.theory.proofs.Raw.{layer-length}
+use Rattle.theory.proofs.Stages.{stage, stage-refuses, stage-done, stage-passed, reached}
 use Rattle.fit.proofs.Answers.{ready-form}
 use Rattle.pass.specs.Outcome.{Outcome}
-use Rattle.pass.specs.Pair.{pairForm, pairRows, pairTotal}
-use Rattle.pass.proofs.Stages.{checked}
+use Rattle.pair.specs.Pair.{pairForm, pairRows, pairTotal}
+use Rattle.pair.proofs.Stages.{checked}
 use Rattle.pass.proofs.Sides.{Sides, sides, move-length}
 
 pub conflict-place : (X Y : Layer) → conflict X Y ≡ ltb (conflictPlace X Y) (length X)

@@ -12,7 +12,7 @@ use borrow.Author.Tests.{not-false, ltb-true, leb-true}
 use Rattle.order.specs.Lists.{ascending, count, gather}
 use Rattle.order.proofs.Tests.{and-l}
 use Rattle.order.proofs.Ascending.{below, asc-of}
-use Rattle.model.specs.declared.Answer.the-variants.{Done, Refused}
+use Rattle.words.specs.declared.Answer.the-variants.{Done, Refused}
 use Rattle.model.specs.Row.{Table, key, keys}
 use Rattle.model.specs.Cell.{to}
 use Rattle.model.specs.Layer.{add, strike, change, Edit, at, Layer, position}
@@ -21,14 +21,14 @@ use Rattle.model.specs.Form.{sound}
 use Rattle.model.specs.Move.{moved, move}
 use Rattle.model.specs.Refusals.{firstMet}
 use Rattle.model.specs.Calls.{bothFitRows}
-use Rattle.model.proofs.Fit.{fits-all, Fit, Good, good-of}
-use Rattle.model.proofs.Column.{singles, keys-singles}
-use Rattle.model.proofs.Stages.{stage-passed, passed-append}
+use Rattle.theory.proofs.Fit.{fits-all, Fit, Good, good-of}
+use Rattle.theory.proofs.Column.{singles, keys-singles}
+use Rattle.theory.proofs.Stages.{stage-passed, passed-append}
 use Rattle.fit.specs.Ready.{Ready}
 use Rattle.fit.proofs.Answers.{ready-form}
 use Rattle.walk.specs.Walk.{Movable}
-use Rattle.pass.specs.Pair.{pairForm, pairRows}
-use Rattle.pass.proofs.Stages.{both-form}
+use Rattle.pair.specs.Pair.{pairForm, pairRows}
+use Rattle.pair.proofs.Stages.{both-form}
 
 -- X and Y are both ready
 pub record Sides (c : ℕ) (K : List ℕ) (mx : ℕ) (x : List ℕ) (my : ℕ) (y : List ℕ) : Type 0 where

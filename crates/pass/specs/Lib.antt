@@ -1,2 +1,1 @@
-pub mod Pair
 pub mod Outcome

@@ -2,7 +2,7 @@
 use mathlib.Core.Path.{_≡_}
 use mathlib.Core.List.{List}
 use Prim.Native.Nat.{ℕ}
-use Rattle.model.specs.declared.Answer.{Answer}
+use Rattle.words.specs.declared.Answer.{Answer}
 use Rattle.model.specs.Calls.{moveAnswer, moveSlice}
 
 abbrev pub Outcome : ℕ → List ℕ → ℕ → List ℕ → ℕ → List ℕ → Answer → List ℕ → Type 0

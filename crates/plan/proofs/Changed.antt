@@ -26,9 +26,9 @@ use Rattle.order.specs.Lists.{one}
 use Rattle.order.proofs.Splice.{pairs-drop, splice}
 use Rattle.model.specs.Cell.{CellEdit, to}
 use Rattle.model.specs.Layer.{add, strike, change, Edit, at, Layer, changesCell}
-use Rattle.model.specs.Raw.{ADD, STRIKE}
-use Rattle.model.specs.Edits.{before, changeBase}
-use Rattle.model.proofs.Edits.{before-cases}
+use Rattle.words.specs.Entry.{ADD, STRIKE}
+use Rattle.model.specs.Edits.{before, composed, changeBase}
+use Rattle.theory.proofs.Edits.{before-cases}
 use Rattle.landing.specs.Landing.{aim, landing, changesFirst}
 use Rattle.landing.proofs.Landed.{landing-le, lands-after, lands-first}
 
@@ -94,14 +94,16 @@ module _ (s j : ℕ) (f : CellEdit) where
     stays (x ∷ R) false e h d m =
         (m, ⊎-elim (λ g. ap (changesCell s j) g ∙ h) (λ n. behind x R e d n) (cases-cons m))
 
+    -- f is the edit over what L does to the cell
     pub change-splice : (t : Bool) → changesFirst s j (drop i L) ≡ t
-        → changeBase s j f L ≡ take i L ++ (at s (change j f) ∷ drop (i + one t) L)
+        → (e : CellEdit) → f ≡ composed s j e L → changeBase s j e L ≡ take i L ++ (at s (change j f) ∷ drop (i + one t) L)
     unfolding changeBase
-    change-splice t h =
-        splice before (at s (change j f)) (changesCell s j) i (one t) L first (goes (drop i L) t h)
+    change-splice t h e z =
+        rw (← z)
+        (splice before (at s (change j f)) (changesCell s j) i (one t) L first (goes (drop i L) t h)
         (λ d m.
         let w = stays (drop i L) t refl h d (rw (drop-drop (one t) i L) m) in
-        (later d (w .0), w .1))
+        (later d (w .0), w .1)))
 
     pub first-there : (t : Bool) → changesFirst s j (drop i L) ≡ t → i + one t ≤ length L
     first-there true h = go (drop i L) refl h

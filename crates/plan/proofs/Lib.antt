@@ -1,3 +1,4 @@
 pub mod Struck
 pub mod Changed
 pub mod Planned
+pub mod Answers

@@ -15,21 +15,23 @@ use Rattle.order.proofs.Tests.{and-of}
 use Rattle.order.proofs.Pairs.{AllPairs}
 use Rattle.order.proofs.Ascending.{At, at-length, getD-at}
 use Rattle.order.proofs.Splice.{insert-at, without-at}
-use Rattle.model.specs.declared.Entry.{Entry}
-use Rattle.model.specs.declared.Back.the-variants as backed
+use Rattle.words.specs.declared.Entry.{Entry}
+use Rattle.words.specs.declared.Back.the-variants as backed
 use Rattle.model.specs.Row.{Row, key}
 use Rattle.model.specs.Cell.{to}
 use Rattle.model.specs.Layer.{Edit, at, add, strike, change, Layer, struck, rowsAfter}
-use Rattle.model.specs.Raw.{ADD, STRIKE, addEntry, strikeEntry, changeEntry, numbersOf, layerOf}
+use Rattle.model.specs.Raw.{numbersOf, layerOf}
+use Rattle.words.specs.Entry.{ADD, STRIKE, addEntry, strikeEntry, changeEntry}
 use Rattle.model.specs.Fit.{keysBelow}
 use Rattle.model.specs.Read.{read}
 use Rattle.model.specs.Position.{base, added, back}
 use Rattle.model.specs.Edits.{before, addRow, strikeBase, strikeRow, changeBase}
 use Rattle.model.specs.Calls.{originAnswer}
-use Rattle.model.proofs.Count.{read-length}
-use Rattle.model.proofs.Column.{singles, singles-length}
-use Rattle.model.proofs.Origin.{Stands, back-row, origin-base, origin-added}
-use Rattle.model.proofs.Readback.{sound-wide}
+use Rattle.theory.proofs.Count.{read-length}
+use Rattle.theory.proofs.Column.{singles, singles-length}
+use Rattle.theory.proofs.Edits.{set-composed}
+use Rattle.theory.proofs.Origin.{Stands, back-row, origin-base, origin-added}
+use Rattle.theory.proofs.Readback.{sound-wide}
 use Rattle.write.specs.declared.Splice.{Splice}
 use Rattle.write.specs.Splice.{entryNumbers}
 use Rattle.write.specs.Plans.{Plans}
@@ -127,7 +129,7 @@ module _ {c m : ℕ} {raw K : List ℕ} (N : Known c m raw K) where
         few = omega arith;
         within = omega (arith, q, first-there s j (to v) L sorted i lands t refl);
         leads =
-            change-splice s j (to v) L sorted i lands t refl
+            change-splice s j (to v) L sorted i lands t refl (to v) (sym (set-composed s j v L))
             ∙ ap (λ (n : ℕ). take i L ++ (at s (change j (to v)) ∷ drop (i + n) L)) (sym q);
         numbers = ap (entryNumbers c) f ∙ change-numbers c s v (h .some) (h .columns) j;
         wide =

@@ -15,10 +15,10 @@ use Rattle.order.proofs.Pairs.{AllPairs}
 use Rattle.order.proofs.Splice.{drop-mem, take-mem, part, splice}
 use Rattle.model.specs.Row.{key}
 use Rattle.model.specs.Layer.{Deed, add, strike, change, Edit, at, Layer, position, struck, changesRow}
-use Rattle.model.specs.Raw.{ADD, STRIKE}
+use Rattle.words.specs.Entry.{ADD, STRIKE}
 use Rattle.model.specs.Edits.{deedBefore, before, strikeBase}
-use Rattle.model.proofs.Edits.{before-cases, before-lt, before-eq}
-use Rattle.model.proofs.Layer.{struck-of}
+use Rattle.theory.proofs.Edits.{before-cases, before-lt, before-eq}
+use Rattle.theory.proofs.Layer.{struck-of}
 use Rattle.landing.specs.Landing.{aim, landing}
 use Rattle.landing.proofs.Landed.{landing-le, lands-after, lands-first}
 

@@ -1,6 +1,6 @@
 -- The splice that takes one entry out: none comes, so the entry that it holds counts for nothing.
 use Prim.Native.Nat.{ℕ}
-use Rattle.model.specs.Raw.{strikeEntry}
+use Rattle.words.specs.Entry.{strikeEntry}
 use Rattle.write.specs.declared.Splice.{Splice}
 
 abbrev pub outOf : ℕ → Splice

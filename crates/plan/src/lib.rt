@@ -1,6 +1,6 @@
 // Which splice an edit of a layer is: found by looking, with nothing written.
-use model::Back;
-use model::Entry;
+use words::Back;
+use words::Entry;
 use write::Splice;
 ghost use mathlib.Core.Path.{_≡_};
 ghost use mathlib.Core.Bool.{false};

@@ -10,24 +10,25 @@ use lib.IntN.{ℤ, pos, natAbs, _+ℤ_}
 use lib.Dec.{leb}
 use borrow.Author.Tests.{le-leb, lt-leb, leb-true, leb-false}
 use Rattle.order.proofs.Tests.{impossible}
-use Rattle.model.specs.declared.Answer.{Answer}
-use Rattle.model.specs.declared.Answer.the-variants.{Done, Refused}
-use Rattle.model.specs.declared.Shifted.{Shifted}
-use Rattle.model.specs.declared.Shifted.the-variants as shifted
-use Rattle.model.specs.declared.Back.the-variants as backed
+use Rattle.words.specs.declared.Answer.{Answer}
+use Rattle.words.specs.declared.Answer.the-variants.{Done, Refused}
+use Rattle.words.specs.declared.Shifted.{Shifted}
+use Rattle.words.specs.declared.Shifted.the-variants as shifted
+use Rattle.words.specs.declared.Back.the-variants as backed
 use Rattle.model.specs.Layer.{Layer, rowsAfter}
-use Rattle.model.specs.Raw.{Held, layerOf, entriesAt}
+use Rattle.model.specs.Raw.{layerOf, entriesAt}
 use Rattle.model.specs.Form.{argsOk}
 use Rattle.model.specs.Position.{shift, rowOf, back}
-use Rattle.model.specs.Refusals.{Test, refuse, firstMet, refusal, badRow}
+use Rattle.model.specs.Refusals.{Test, refuse, firstMet, badRow}
+use Rattle.words.specs.Answer.{refusal}
 use Rattle.model.specs.Calls.{formRows, formAnswer, shiftAnswer, rowAnswer, backAnswer, originAnswer}
-use Rattle.model.proofs.Stages.{onward}
-use Rattle.model.proofs.Raw.{layer-length}
-use Rattle.model.proofs.Position.{shift-bounded, row-never-negative}
+use Rattle.theory.proofs.Stages.{onward}
+use Rattle.theory.proofs.Position.{row-never-negative}
 use Rattle.form.specs.Scan.{goodFrom}
 use Rattle.form.proofs.Formed.{counted}
 use Rattle.form.proofs.Accepted.{accepted}
 use Rattle.form.proofs.Answers.{after-form, own-argument, after-own}
+use Rattle.tally.proofs.Small.{shift-small}
 
 -- an empty layer whose arguments pass is in form, and its rows are those of the base
 pub empty-done : (c n m : ℕ) (xs : List ℕ) → m ≡ 0 → argsOk c n m (length xs) ≡ true → Done n ≡ formAnswer c n m xs
@@ -37,12 +38,6 @@ empty-done c n zero xs z ok =
     let e : n ≡ (n + 0) - 0 = omega arith in
     ap Done e ∙ k .accept (omega (arith, k .base))
 empty-done c n (suc m) xs z ok = absurd (omega (arith, z))
-
--- the shift of a layer is small
-pub shift-small : (c m : ℕ) (xs : List ℕ) (s : ℕ) → Held c m xs → natAbs (shift (layerOf c m xs) s) ≤ 512
-shift-small c m xs s h =
-    leb-true (natAbs (shift (layerOf c m xs) s)) 512
-    (shift-bounded (layerOf c m xs) s (omega (arith, layer-length c m xs, h .entries)))
 
 -- what is known of a base position and a layer whose shift is answered
 pub record Asked (c m : ℕ) (xs : List ℕ) (s : ℕ) (d : ℤ) : Type 0 where

@@ -1,4 +1,3 @@
-pub mod Signed
-pub mod Counting
+pub mod Sums
 pub mod Answers
 pub mod Unique

@@ -1,28 +1,14 @@
 // Shifts, row numbers, and back from a row number to what stands there.
-use entry::Cursor;
-use entry::Sight;
-use model::Answer;
-use model::Back;
-use model::Refusal;
-use model::Shifted;
+use words::Answer;
+use words::Back;
+use words::Refusal;
+use words::Shifted;
 ghost use mathlib.Core.Path.{_≡_};
 ghost use mathlib.Core.Bool.{true};
-ghost use Prim.Native.Nat.{_+_, _≤_, _<_};
-ghost use lib.IntN.{pos, natAbs, subℕ, _+ℤ_};
+ghost use Prim.Native.Nat.{_≤_};
+ghost use lib.IntN.{pos, natAbs, _+ℤ_};
 ghost use lib.Signed.{nonNeg};
-ghost use Rattle.order.specs.Lists.{one, count};
-ghost use Rattle.model.specs.Raw.{Held, layerOf};
-ghost use Rattle.model.specs.Position.{addUpTo, strikeBefore, shift};
 ghost use Rattle.model.specs.Calls.{formAnswer, shiftAnswer, rowAnswer, backAnswer};
-ghost use Rattle.position.specs.Seen.{addSeen, strikeSeen};
-
-// By how much a passes b, below zero where it does not.
-fn less(a: usize, b: usize) -> i64
-    requires { ⌜ (a ≤ 512) × (b ≤ 512) ⌝ }
-    ensures { λ r. ⌜ r ≡ subℕ a b ⌝ }
-{
-    (a as i64) - (b as i64)
-}
 
 // Position s moved by d, which takes it to no negative row.
 fn shifted(s: usize, d: i64) -> usize
@@ -30,62 +16,6 @@ fn shifted(s: usize, d: i64) -> usize
     ensures { λ r. ⌜ pos r ≡ pos s +ℤ d ⌝ }
 {
     ((s as i64) + d) as usize
-}
-
-// The adds at positions up to and including s, and the strikes at positions before s.
-struct Tally {
-    adds: usize,
-    strikes: usize,
-}
-
-impl Tally {
-    // One entry more.
-    fn with(self, f: Sight, s: u64) -> Self
-        requires { ⌜ (self .adds < 512) × (self .strikes < 512) ⌝ }
-        ensures { λ r. ⌜ (r .adds ≡ self .adds + one (addSeen s f))
-            × (r .strikes ≡ self .strikes + one (strikeSeen s f)) ⌝ }
-    {
-        match f {
-            Sight::Add(p, _) => Self {
-                adds: self.adds + entry::one_if(p <= s),
-                strikes: self.strikes,
-            },
-            Sight::Strike(p, _) => Self {
-                adds: self.adds,
-                strikes: self.strikes + entry::one_if(p < s),
-            },
-            Sight::Change(_, _, _) => self,
-            Sight::End => self,
-        }
-    }
-}
-
-// The pass over the entries that counts them.
-fn counted(c: usize, m: usize, layer: &[u64], s: usize) -> Tally
-    requires { ⌜ Held c m (now layer) ⌝ }
-    ensures { λ r. ⌜ (let L = layerOf c m (now (layer .entry)) in
-        (r .adds ≡ count (addUpTo s) L) × (r .strikes ≡ count (strikeBefore s) L)) ⌝ }
-{
-    let to = s as u64;
-    let mut k = Cursor::first();
-    let mut w = Tally {
-        adds: 0,
-        strikes: 0,
-    };
-    while k.i < m {
-        w = w.with(entry::look(c, m, layer, k), to);
-        k = k.next(c);
-    }
-    w
-}
-
-// The shift at base position s.
-fn shift_at(c: usize, m: usize, layer: &[u64], s: usize) -> i64
-    requires { ⌜ Held c m (now layer) ⌝ }
-    ensures { λ r. ⌜ r ≡ shift (layerOf c m (now (layer .entry))) s ⌝ }
-{
-    let w = counted(c, m, layer, s);
-    less(w.adds, w.strikes)
 }
 
 // The check of the layer: an empty one has only its arguments to check, which spares it the pass over entries.
@@ -113,7 +43,7 @@ pub fn shift(c: usize, n: usize, m: usize, layer: &[u64], s: usize) -> Shifted
     }
     let f = check_layer(c, n, m, layer);
     match f {
-        Answer::Done(_) => Shifted::By(shift_at(c, m, layer, s)),
+        Answer::Done(_) => Shifted::By(tally::shift_at(c, m, layer, s)),
         Answer::Refused(x) => Shifted::Refused(x),
     }
 }

@@ -7,10 +7,10 @@ use mathlib.Core.Bool.{Bool, true, false}
 use mathlib.Core.List.{List, [], _∷_}
 use lib.ListN.{length}
 use Rattle.order.proofs.Tests.{impossible}
-use Rattle.model.specs.declared.Refusal.{Refusal}
-use Rattle.model.specs.declared.Answer.{Answer}
-use Rattle.model.specs.declared.Answer.the-variants.{Done, Refused}
-use Rattle.model.specs.Answer.{numberOf}
+use Rattle.words.specs.declared.Refusal.{Refusal}
+use Rattle.words.specs.declared.Answer.{Answer}
+use Rattle.words.specs.declared.Answer.the-variants.{Done, Refused}
+use Rattle.words.specs.Answer.{numberOf}
 use Rattle.model.specs.Row.{Table, keys, column}
 use Rattle.model.specs.Layer.{Layer}
 use Rattle.model.specs.Raw.{layerOf, flat}
@@ -22,20 +22,20 @@ use Rattle.model.specs.Past.{Past}
 use Rattle.model.specs.Refusals.{Test, refuse, firstMet}
 use Rattle.model.specs.Calls.{edited, written, movedLayer, shownColumn, moveRows, moveAnswer}
 use Rattle.model.specs.Steps.{Step, stepOn}
-use Rattle.model.proofs.Fit.{Good}
-use Rattle.model.proofs.Column.{Wide, column-read, read-wide}
-use Rattle.model.proofs.Demand3.{demand3}
-use Rattle.model.proofs.Stages.{stage-refuses, stage-passed}
+use Rattle.theory.proofs.Fit.{Good}
+use Rattle.theory.proofs.Column.{Wide, column-read, read-wide}
+use Rattle.theory.proofs.Demand3.{demand3}
+use Rattle.theory.proofs.Stages.{stage-refuses, stage-passed}
 use Rattle.edit.specs.Runs.{Allows, stepAnswer}
 use Rattle.edit.proofs.Accepting.{Accepts, accepts}
 use Rattle.edit.proofs.Laws.{edit-layer}
 use Rattle.pass.specs.Outcome.{Outcome as Moved}
-use Rattle.pass.specs.Pair.{pairForm, pairRows}
+use Rattle.pair.specs.Pair.{pairForm, pairRows}
 use Rattle.pass.proofs.Sides.{good-side}
 use Rattle.pass.proofs.Moving.{Moves, moves}
 use Rattle.demand.specs.Promises.{PassesFour, MovedPast}
 use Rattle.demand.proofs.Promises.{tested, moved-past, eight-exactly}
-use Rattle.joined.specs.Promises.{Outcome as Combined, ColumnReads}
+use Rattle.joined.specs.Promises.{Combined, ColumnReads}
 use Rattle.joined.proofs.Promises.{left, column-reads}
 use Rattle.question.specs.Typed.{Reached}
 use Rattle.question.proofs.Typed.{reached}

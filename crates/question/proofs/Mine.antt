@@ -20,19 +20,19 @@ use Rattle.model.specs.Edits.{changeRowNo, deedBefore}
 use Rattle.model.specs.Redo.{putKey, changeKey}
 use Rattle.model.specs.Conflict.{conflict}
 use Rattle.model.specs.Meaning.{keyOf, meaning, row, lookup, given}
-use Rattle.model.proofs.Cell.{put-key, put-here}
-use Rattle.model.proofs.Fit.{Fit, Good, key-of, good-form, good-fits}
-use Rattle.model.proofs.Count.{read-ascends}
-use Rattle.model.proofs.Column.{Wide, read-wide}
-use Rattle.model.proofs.Conflict.{apart, conflict-sym}
-use Rattle.model.proofs.Move.{Beside}
-use Rattle.model.proofs.Demand3.{Tested}
-use Rattle.model.proofs.Edited.{change-good, change-reads}
-use Rattle.model.proofs.Joined.{addsRow, putDeed, changeDeeds, changesColumn, change-means}
-use Rattle.model.proofs.Meaning.{meaning-mem, position-of}
-use Rattle.model.proofs.Lookup.{lookup-mem, lookup-found, one-layer}
-use Rattle.model.proofs.Moved.{together}
-use Rattle.model.proofs.Operator.{Leaves, operators-question, mine-alone, mine-cell}
+use Rattle.theory.proofs.Cell.{put-key, put-here}
+use Rattle.theory.proofs.Fit.{Fit, Good, key-of, good-form, good-fits}
+use Rattle.theory.proofs.Count.{read-ascends}
+use Rattle.theory.proofs.Column.{Wide, read-wide}
+use Rattle.theory.proofs.Conflict.{apart, conflict-sym}
+use Rattle.theory.proofs.Move.{Beside}
+use Rattle.theory.proofs.Demand3.{Tested}
+use Rattle.theory.proofs.Edited.{change-good, change-reads}
+use Rattle.theory.proofs.Joined.{addsRow, putDeed, changeDeeds, changesColumn, set-composed-deeds, change-means}
+use Rattle.theory.proofs.Meaning.{meaning-mem, position-of}
+use Rattle.theory.proofs.Lookup.{lookup-mem, lookup-found, one-layer}
+use Rattle.theory.proofs.Moved.{together}
+use Rattle.theory.proofs.Operator.{Leaves, operators-question, mine-alone, mine-cell}
 
 none-of : (ds : List Deed) → ((d : Deed) → Mem d ds → ⊥) → ds ≡ []
 none-of [] h = refl
@@ -122,7 +122,7 @@ module _ (c : ℕ) (T : Table) (L Y : Layer) (a : AscFrom key 0 T) (wide : Wide 
                 )
         go false e =
             let k : Mem (change j (to v)) (meaning (keys T) X g) =
-            rw (means, e) (mem-insert deedBefore (change j (to v)) (filter (λ d. not (changesColumn j d)) (meaning (keys T) L g)) (change j (to v)) (inl refl)) in
+            rw (means, e, set-composed-deeds j v (meaning (keys T) L g)) (mem-insert deedBefore (change j (to v)) (filter (λ d. not (changesColumn j d)) (meaning (keys T) L g)) (change j (to v)) (inl refl)) in
             let z = meaning-mem (keys T) X g (change j (to v)) k in
             let none : Leaves j (meaning (keys T) Y g) = λ f m.
             let y = meaning-mem (keys T) Y g (change j f) m in

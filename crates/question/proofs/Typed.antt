@@ -22,15 +22,15 @@ use Rattle.model.specs.Redo.{strikeKey}
 use Rattle.model.specs.Edits.{addRow, strikeRow, deedBefore}
 use Rattle.model.specs.Meaning.{Found, row, missing, lookup, meaning, given, strikeFound, changeFound}
 use Rattle.model.specs.Steps.{Step, adding, striking, changing, stepOn, keyAt, Allowed}
-use Rattle.model.proofs.Fit.{Good, good-form, good-fits}
-use Rattle.model.proofs.Column.{Wide}
-use Rattle.model.proofs.Conflict.{apart, conflict-sym}
-use Rattle.model.proofs.Move.{Beside}
-use Rattle.model.proofs.Demand3.{Tested}
-use Rattle.model.proofs.Edited.{add-good, add-reads, strike-good, strike-reads, change-good}
-use Rattle.model.proofs.Joined.{addsRow, add-means, strike-means, change-means}
-use Rattle.model.proofs.Meaning.{meaning-mem}
-use Rattle.model.proofs.Lookup.{
+use Rattle.theory.proofs.Fit.{Good, good-form, good-fits}
+use Rattle.theory.proofs.Column.{Wide}
+use Rattle.theory.proofs.Conflict.{apart, conflict-sym}
+use Rattle.theory.proofs.Move.{Beside}
+use Rattle.theory.proofs.Demand3.{Tested}
+use Rattle.theory.proofs.Edited.{add-good, add-reads, strike-good, strike-reads, change-good}
+use Rattle.theory.proofs.Joined.{addsRow, add-means, strike-means, change-means}
+use Rattle.theory.proofs.Meaning.{meaning-mem}
+use Rattle.theory.proofs.Lookup.{
   one-layer,
   given-added,
   given-gone,
@@ -39,9 +39,9 @@ use Rattle.model.proofs.Lookup.{
   strikes-missing,
   added-once,
 }
-use Rattle.model.proofs.Redo.{lookup-strike, lookup-add}
-use Rattle.model.proofs.Moved.{together}
-use Rattle.model.proofs.Operator.{operators-question, mine-alone, theirs-alone}
+use Rattle.theory.proofs.Redo.{lookup-strike, lookup-add}
+use Rattle.theory.proofs.Moved.{together}
+use Rattle.theory.proofs.Operator.{operators-question, mine-alone, theirs-alone}
 use Rattle.question.specs.Typed.{groupOf, Gone, nothing, theirs, Shows, Reached}
 use Rattle.question.proofs.Mine.{added-alone, my-change}
 

@@ -8,18 +8,19 @@ use mathlib.Core.List.{List, [], _∷_}
 use lib.ListN.{length}
 use lib.Dec.{ltb}
 use borrow.Author.Tests.{lt-ltb, le-ltb, ltb-true, ltb-false}
-use Rattle.model.specs.declared.Refusal.{Refusal}
-use Rattle.model.specs.declared.Answer.{Answer}
-use Rattle.model.specs.declared.Answer.the-variants.{Done, Refused}
+use Rattle.words.specs.declared.Refusal.{Refusal}
+use Rattle.words.specs.declared.Answer.{Answer}
+use Rattle.words.specs.declared.Answer.the-variants.{Done, Refused}
 use Rattle.model.specs.Raw.{layerOf}
-use Rattle.model.specs.Refusals.{Test, refuse, refusal, firstMet}
+use Rattle.model.specs.Refusals.{Test, refuse, firstMet}
+use Rattle.words.specs.Answer.{refusal}
 use Rattle.model.specs.Calls.{formAnswer, shownColumn, written, readAnswer, readSlice}
-use Rattle.model.proofs.Stages.{never-done, onward, reached, stage-passed}
+use Rattle.theory.proofs.Stages.{never-done, onward, reached, stage-passed}
 use Rattle.form.proofs.Accepted.{Accepted, accepted}
 use Rattle.form.proofs.Answers.{own-argument, after-own}
-use Rattle.read.specs.Runs.{Readable}
+use Rattle.column.specs.Runs.{Ready, Readable}
+use Rattle.column.proofs.Rows.{rows-shown}
 use Rattle.read.proofs.Ready.{ready}
-use Rattle.read.proofs.Rows.{rows-formed}
 
 module _ (c m : ℕ) (raw xs : List ℕ) (j len : ℕ) where
   abbrev rows : ℕ
@@ -48,8 +49,11 @@ module _ (c m : ℕ) (raw xs : List ℕ) (j len : ℕ) where
     took : Accepted c (length xs) m raw k
     took = accepted c (length xs) m raw k e
 
+    can-show : Ready j (length xs) 0 (layerOf c m raw)
+    can-show = ready c (length xs) j (layerOf c m raw) (took .each) (took .pairs)
+
     pub counted : rows ≡ k
-    counted = rows-formed c j xs (layerOf c m raw) (took .each) (took .pairs) ∙ sym (took .shown)
+    counted = rows-shown j xs (layerOf c m raw) can-show ∙ sym (took .shown)
 
     pub short : len < k → Refused (refusal 11 0) ≡ readAnswer c m raw xs j len
     short l = sym (after-form h ∙ rw (e, lt-ltb len rows (omega (arith, counted))))
@@ -62,7 +66,7 @@ module _ (c m : ℕ) (raw xs : List ℕ) (j len : ℕ) where
     can-read l = record {
       held = took .held;
       column = h;
-      ready = ready c (length xs) j (layerOf c m raw) (took .each) (took .pairs);
+      ready = can-show;
       room = omega (arith, took .shown);
     }
 

@@ -14,7 +14,7 @@ use Rattle.model.specs.Cell.{CellEdit}
 use Rattle.model.specs.Layer.{Deed, add, strike, change, Edit, at, Layer, position}
 use Rattle.model.specs.Form.{sound, after, follows}
 use Rattle.model.specs.Read.{touches}
-use Rattle.read.specs.Runs.{Ready}
+use Rattle.column.specs.Runs.{Ready}
 
 -- what follows an edit at p stands there or later; past p, where the two deeds cannot stand at one position
 not-before : (p : ℕ) (d : Deed) (f : Edit) → follows (at p d) f ≡ true → p ≤ position f

@@ -8,13 +8,11 @@ use contract.Lifetimes.{Lfts}
 use denote.Ref.{now}
 use denote.Triple.Clauses.{AtExit}
 use borrow.Fn.Kinds.{Dens, endedOf}
-use Rattle.model.specs.declared.Answer.{Answer}
+use Rattle.words.specs.declared.Answer.{Answer}
 use Rattle.read.proofs.answer.Kinds as answer-kinds
 use Rattle.read.proofs.answer.Reads as answer-contract
 use Rattle.read.proofs.read.Kinds as read-kinds
 use Rattle.read.proofs.read.Reads as read-contract
-use Rattle.read.proofs.read_part.Kinds as core-kinds
-use Rattle.read.proofs.read_part.Reads as core-contract
 
 -- of the answer alone
 module _ (κs : Lfts 2) (a : Dens κs answer-kinds.ps) (s s′ : AtExit (endedOf 2 answer-kinds.ps answer-kinds.r) κs) where
@@ -29,9 +27,3 @@ module _ (κs : Lfts 3) (a : Dens κs read-kinds.ps) (s s′ : AtExit (endedOf 3
   pub read-unique : (r r′ : Answer) → read-contract.Post κs a r s → read-contract.Post κs a r′ s′
       → (r ≡ r′) × (out s ≡ out s′)
   read-unique r r′ p q = (p .0 ∙ sym (q .0), p .1 ∙ sym (q .1))
-
--- of the reader behind it
-module _ (κs : Lfts 3) (a : Dens κs core-kinds.ps) (s s′ : AtExit (endedOf 3 core-kinds.ps core-kinds.r) κs) where
-  pub read-part-unique : (r r′ : ℕ) → core-contract.Post κs a r s → core-contract.Post κs a r′ s′
-      → (r ≡ r′) × (now (s .1 .1 .1 .1 .1 .0) ≡ now (s′ .1 .1 .1 .1 .1 .0))
-  read-part-unique r r′ p q = (p .0 ∙ sym (q .0), p .1 ∙ sym (q .1))

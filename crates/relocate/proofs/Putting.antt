@@ -9,7 +9,7 @@ use lib.ListN.{length, getD, take, drop, set, length-set, take-append-drop}
 use lib.Seq.{take-add, drop-drop, drop-cons, take-set-le, drop-set-lt, getD-set-same}
 use Rattle.order.specs.Lists.{gather}
 use Rattle.order.proofs.Splice.{drop-mem}
-use Rattle.model.specs.declared.Entry.{Entry}
+use Rattle.words.specs.declared.Entry.{Entry}
 use Rattle.model.specs.Layer.{Deed, add, strike, change, at, Layer, position}
 use Rattle.model.specs.Raw.{Held, entryAt, entriesOf, deedOf, editOf, numbersOf, layerOf, flat}
 use Rattle.model.specs.Move.{moved, move}

@@ -8,18 +8,18 @@ use lib.ListN.{length, take, drop, length-drop}
 use lib.Seq.{take-take, length-take-le}
 use borrow.Rule.Slice.PartMut.{putMid, take-put}
 use Rattle.order.proofs.Counts.{count-le}
-use Rattle.model.specs.declared.Answer.{Answer}
-use Rattle.model.specs.declared.Answer.the-variants.{Done, Refused}
+use Rattle.words.specs.declared.Answer.{Answer}
+use Rattle.words.specs.declared.Answer.the-variants.{Done, Refused}
 use Rattle.model.specs.Row.{Table, cell, column}
 use Rattle.model.specs.Layer.{Layer, isAdd}
 use Rattle.model.specs.Raw.{layerOf}
 use Rattle.model.specs.Read.{read, readColumn}
 use Rattle.model.specs.Calls.{formAnswer}
-use Rattle.model.proofs.Column.{Wide, column-read}
+use Rattle.theory.proofs.Column.{Wide, column-read}
 use Rattle.read.proofs.Answers.{counted, can-read}
-use Rattle.read.specs.Runs.{Readable}
+use Rattle.column.specs.Runs.{Readable}
 use Rattle.form.proofs.Accepted.{accepted}
-use Rattle.model.specs.declared.Refusal.{Refusal}
+use Rattle.words.specs.declared.Refusal.{Refusal}
 use Rattle.base.specs.declared.Counts.{Counts}
 use Rattle.base.specs.Base.{Sheet, mostBase, columnOf}
 use Rattle.text.specs.Text.{Wrote, header, rowText, tableText, columnsText, mostShown, front, firstText}
@@ -137,13 +137,13 @@ rows-read rows n m raw table work few size wG wO wP =
     rw (wG, wO, wP, ← columns-text 0 (read (tableOf n table) L), c .zeroth, c .first, c .second)
 
 -- the header alone, and with the rows behind it
-module _ (d : Counts) (x : Sheet) (old mid : List ℕ) (r : ℕ) (w : Wrote header old 0 r mid) where
+module _ (d : Counts) (x : Sheet) (old mid : List ℕ) (o r : ℕ) (w : Wrote header old o r mid) where
   pub header-alone : {f : Answer} (q : Refusal) → f ≡ formAnswer 3 (d .rows) (d .entries) (x .layer) → f ≡ Refused q →
-      Wrote (ending d x) old 0 r mid
+      Wrote (ending d x) old o r mid
   unfolding ending tableText
   header-alone q e t = rw (sym e ∙ t) w
 
   pub header-rows : {f : Answer} (k q : ℕ) (new : List ℕ) → f ≡ formAnswer 3 (d .rows) (d .entries) (x .layer) → f ≡ Done k →
-      Wrote (tableText 0 (shownTable d x)) mid r q new → Wrote (ending d x) old 0 q new
+      Wrote (tableText 0 (shownTable d x)) mid r q new → Wrote (ending d x) old o q new
   unfolding ending
   header-rows k q new e t v = rw (sym e ∙ t) (wrote-then w v)

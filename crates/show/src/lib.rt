@@ -1,6 +1,6 @@
 // The table at the end: the base columns read through the layer, and its rows as text.
 use base::Counts;
-use model::Answer;
+use words::Answer;
 ghost use mathlib.Core.Path.{_≡_};
 ghost use Prim.Native.Nat.{_+_, _*_, _≤_, _<_};
 ghost use lib.ListN.{length, take};
@@ -28,7 +28,7 @@ fn read_column(
 {
     let from = 512 * j;
     let at = 1024 * j;
-    read::read_part(
+    column::read_part(
         3,
         m,
         layer,
@@ -60,22 +60,23 @@ fn put_table(
     text::put_rows(rows, &work, out, at)
 }
 
-// Writes the header and the rows to the front of the buffer, and answers how many bytes they are.
+// Writes the header and the rows.
 pub fn finish(
     counts: Counts,
     table: &[u64; 1536],
     layer: &[u64; 2560],
     out: &mut [u8; 204800],
+    at: usize,
 ) -> usize
-    requires { ⌜ counts .rows ≤ mostBase ⌝ }
+    requires { ⌜ (counts .rows ≤ mostBase) × (at + 22 + mostShown * 84 ≤ textRoom) ⌝ }
     ensures { λ r. ⌜ Wrote (ending counts (sheetOf (now (table .entry)) (now (layer .entry))))
-        (now (out .entry)) 0 r (now (out .exit)) ⌝ }
+        (now (out .entry)) at r (now (out .exit)) ⌝ }
 {
-    let at = text::put_bytes(b"row group source mask\n", out, 0);
+    let end = text::put_bytes(b"row group source mask\n", out, at);
     let n = counts.rows;
     let m = counts.entries;
     match form::check(3, n, m, layer) {
-        Answer::Refused(_) => at,
-        Answer::Done(rows) => put_table(rows, n, m, layer, table, out, at),
+        Answer::Refused(_) => end,
+        Answer::Done(rows) => put_table(rows, n, m, layer, table, out, end),
     }
 }

@@ -9,11 +9,12 @@ use lib.ListN.{length, getD}
 use lib.Dec.{leb, ltb, eqb}
 use borrow.Author.Tests.{le-leb, lt-leb, le-ltb, eq-eqb, ne-eqb, leb-true, leb-false, ltb-true}
 use Rattle.order.proofs.Tests.{and-l}
-use Rattle.model.specs.declared.Entry.{Entry}
+use Rattle.words.specs.declared.Entry.{Entry}
 use Rattle.model.specs.Form.{sound}
-use Rattle.model.specs.Raw.{ADD, STRIKE, entryAt, entriesAt, editOf}
+use Rattle.model.specs.Raw.{entryAt, entriesAt, editOf}
+use Rattle.words.specs.Entry.{ADD, STRIKE}
 use Rattle.model.specs.Fit.{above}
-use Rattle.model.proofs.Raw.{value-at, rest-step, rest-end}
+use Rattle.theory.proofs.Raw.{value-at, rest-step, rest-end}
 use Rattle.suit.specs.Suit.{first, struckAhead, underAhead, suitsAhead, risesKind, addFits, fitsAfter, fitFrom}
 
 -- K[s-1] < k

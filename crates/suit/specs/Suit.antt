@@ -4,8 +4,8 @@ use mathlib.Core.List.{List, [], _∷_}
 use Prim.Native.Nat.{ℕ, suc}
 use lib.ListN.{length, getD}
 use lib.Dec.{leb, ltb, eqb}
-use Rattle.model.specs.declared.Entry.{Entry}
-use Rattle.model.specs.Raw.{ADD, STRIKE}
+use Rattle.words.specs.declared.Entry.{Entry}
+use Rattle.words.specs.Entry.{ADD, STRIKE}
 use Rattle.model.specs.Fit.{above}
 
 -- the key of an add or a strike, the value of a change

@@ -1,10 +1,11 @@
 // Whether one entry of a layer in form fits the key column, alone and after the one before it.
-use model::Entry;
+use words::Entry;
 ghost use mathlib.Core.Path.{_≡_};
 ghost use mathlib.Core.Bool.{true};
 ghost use Prim.Native.Nat.{_+_, _*_, _-_, _≤_, _<_};
 ghost use lib.ListN.{length, getD};
-ghost use Rattle.model.specs.Raw.{ADD, entryAt, entriesAt, editOf};
+ghost use Rattle.model.specs.Raw.{entryAt, entriesAt, editOf};
+ghost use Rattle.words.specs.Entry.{ADD};
 ghost use Rattle.model.specs.Form.{sound};
 ghost use Rattle.suit.specs.Suit.{struckAhead, risesKind, addFits, fitsAfter};
 

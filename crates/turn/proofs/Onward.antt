@@ -14,7 +14,7 @@ use Rattle.order.proofs.Tests.{impossible, one-le}
 use Rattle.model.specs.Layer.{Deed, add, strike, change, Edit, at, Layer, position, isAdd, isStrike}
 use Rattle.model.specs.Meaning.{keyOf}
 use Rattle.woven.specs.declared.Meets.{Meets}
-use Rattle.woven.specs.declared.Meets.the-variants.{Lower, Upper, UpperHere, Drop, Vanish, Patch}
+use Rattle.woven.specs.declared.Meets.the-variants.{Lower, Upper, UpperHere, Drop, Vanish, Patch, Fuse}
 use Rattle.woven.specs.Woven.{deed, meet, stepOf, rebased, changesAhead, goesOn, walk, wovenLayer}
 use Rattle.woven.proofs.Walking.{walk-on, walk-lower, walk-upper}
 use Rattle.turn.specs.declared.Place.{Place}
@@ -54,7 +54,7 @@ meet-patch (change i g) (add r) h s = impossible (cc)
 meet-patch (change i g) (strike k) h s = impossible (cc)
 meet-patch (change i g) (change j e) h s = by (ltb i j) (eqb i j) h
   where
-    by : (a b : Bool) → cond a Lower (cond b Drop UpperHere) ≡ Patch → false ≡ true
+    by : (a b : Bool) → cond a Lower (cond b Fuse UpperHere) ≡ Patch → false ≡ true
     by true b z = impossible (cc)
     by false true z = impossible (cc)
     by false false z = impossible (cc)
@@ -193,6 +193,17 @@ module _ {K N : List ℕ} {R W : Layer} {k : Place} (g : Walked K N R W k) where
                 few-adds = omega arith;
                 few-strikes = omega arith;
               }
+          go Fuse st q = record {
+            leaves = rw (pe, pf) q;
+            takes = rw (pe, pf) tt;
+            counts = rw (pe, pf);
+            lower-upto = omega arith;
+            upper-upto = omega arith;
+            further = omega arith;
+            few = omega arith;
+            few-adds = omega arith;
+            few-strikes = omega arith;
+          }
 
     pub next-of : (t : Turn) → t ≡ turnOf K N k (drop (k .i) R) (drop (k .j) W) → Next K N R W k t
     next-of t q = subst (Next K N R W k) (sym q) (cases (ltb (k .i) (length R)) refl)

@@ -9,13 +9,14 @@ use lib.ListN.{length, getD, drop, length-drop}
 use lib.Dec.{eqb}
 use Rattle.order.specs.Lists.{one}
 use Rattle.order.proofs.Splice.{drop-mem}
-use Rattle.model.specs.declared.Entry.{Entry}
+use Rattle.words.specs.declared.Entry.{Entry}
 use Rattle.model.specs.Layer.{Layer, rowsAfter, isAdd, isStrike}
 use Rattle.model.specs.Form.{sound}
-use Rattle.model.specs.Raw.{ADD, STRIKE, entryAt, deedOf, editOf, layerOf}
+use Rattle.model.specs.Raw.{entryAt, deedOf, editOf, layerOf}
+use Rattle.words.specs.Entry.{ADD, STRIKE}
 use Rattle.model.specs.Meaning.{keyOf}
-use Rattle.entry.specs.declared.Head.{Head}
-use Rattle.entry.specs.Head.{headOf}
+use Rattle.head.specs.declared.Head.{Head}
+use Rattle.head.specs.Head.{headOf}
 use Rattle.entry.proofs.Looks.{left-step, left-end, room-here}
 use Rattle.form.proofs.Accepted.{Accepted, accepted}
 use Rattle.form.proofs.ByKind.{add-kind, strike-kind}

@@ -5,17 +5,17 @@ use mathlib.Core.List.{List, [], _∷_}
 use Prim.Native.Nat.{ℕ, _+_, _-_, _≤_}
 use lib.ListN.{length, drop}
 use Rattle.order.specs.Lists.{one}
-use Rattle.model.specs.declared.Answer.the-variants.{Done}
+use Rattle.words.specs.declared.Answer.the-variants.{Done}
 use Rattle.model.specs.Layer.{Edit, Layer, position, isAdd, isStrike, rowsAfter}
 use Rattle.model.specs.Raw.{layerOf}
 use Rattle.model.specs.Calls.{formAnswer}
 use Rattle.woven.specs.declared.Meets.{Meets}
-use Rattle.woven.specs.declared.Meets.the-variants.{Lower, Upper, UpperHere, Drop, Vanish, Patch}
-use Rattle.woven.specs.Woven.{stepOf, placed, changesAhead, patchedAdd, walk, wovenLayer}
+use Rattle.woven.specs.declared.Meets.the-variants.{Lower, Upper, UpperHere, Drop, Vanish, Patch, Fuse}
+use Rattle.woven.specs.Woven.{stepOf, placed, changesAhead, patchedAdd, fused, walk, wovenLayer}
 use Rattle.over.specs.Over.{Named}
 use Rattle.turn.specs.declared.Place.{Place}
 use Rattle.turn.specs.declared.Puts.{Puts}
-use Rattle.turn.specs.declared.Puts.the-variants.{Nothing, AsItIs, UpperAt, Changed}
+use Rattle.turn.specs.declared.Puts.the-variants.{Nothing, AsItIs, UpperAt, Changed, Fused}
 use Rattle.turn.specs.declared.Turn.{Turn}
 
 abbrev pub outset : Place
@@ -54,6 +54,10 @@ turned k e f W Patch =
       puts = Changed;
       to = record { i = k .i + 1; j = k .j + n; m = k .m + 1; adds = k .adds + 1; strikes = k .strikes };
     }
+turned k e f W Fuse = record {
+  puts = Fused;
+  to = record { i = k .i + 1; j = k .j + 1; m = k .m + 1; adds = k .adds; strikes = k .strikes };
+}
 
 -- the same of what is left of both layers
 abbrev pub turnOf : List ℕ → List ℕ → Place → Layer → Layer → Turn
@@ -71,6 +75,9 @@ left (UpperAt p) R (f ∷ W) = placed p f ∷ []
 left Changed [] W = []
 left Changed (e ∷ R) [] = []
 left Changed (e ∷ R) (f ∷ W) = patchedAdd (position f) (f ∷ W) e ∷ []
+left Fused [] W = []
+left Fused (e ∷ R) [] = []
+left Fused (e ∷ R) (f ∷ W) = fused e f ∷ []
 
 -- they are there to be left
 abbrev pub Takes : Puts → Layer → Layer → Type 0
@@ -82,6 +89,9 @@ Takes (UpperAt p) R (f ∷ W) = Unit {0}
 Takes Changed R [] = ⊥
 Takes Changed [] (f ∷ W) = ⊥
 Takes Changed (e ∷ R) (f ∷ W) = isAdd e ≡ true
+Takes Fused R [] = ⊥
+Takes Fused [] (f ∷ W) = ⊥
+Takes Fused (e ∷ R) (f ∷ W) = Unit {0}
 
 -- both layers are in form, the upper over the keys N that the lower leaves, and its entries concern these keys
 pub record Both (c : ℕ) (K N : List ℕ) (mR : ℕ) (R : List ℕ) (mW : ℕ) (W names : List ℕ) : Type 0 where

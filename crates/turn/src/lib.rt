@@ -1,6 +1,6 @@
 // One turn of the walk along two layers: what their next entries make of each other, and where both stand then.
 use entry::Cursor;
-use model::Entry;
+use words::Entry;
 use woven::Meets;
 ghost use mathlib.Core.Path.{_≡_};
 ghost use Prim.Native.Nat.{_+_, _-_, _≤_, _<_};
@@ -35,12 +35,13 @@ impl Place {
 }
 
 // The entry that a turn leaves: none; the lower layer's as it is; the upper's at a position; the lower's, an added row, with
-// the changes of that row that the upper goes on with.
+// the changes of that row that the upper goes on with; the upper's, a change, over the lower's of the same cell.
 pub enum Puts {
     Nothing,
     AsItIs,
     UpperAt(u64),
     Changed,
+    Fused,
 }
 
 // A turn: the entry that it leaves, and where the walk stands then.
@@ -150,5 +151,15 @@ pub fn next(
                 },
             }
         }
+        Meets::Fuse => Turn {
+            puts: Puts::Fused,
+            to: Place {
+                i: i + 1,
+                j: j + 1,
+                m: k.m + 1,
+                adds: k.adds,
+                strikes: k.strikes,
+            },
+        },
     }
 }

@@ -7,9 +7,9 @@ use mathlib.Core.Bool.{Bool, true, false, cond}
 use mathlib.Core.List.{List}
 use Rattle.order.specs.Lists.{any}
 use Rattle.order.proofs.Tests.{impossible}
-use Rattle.model.specs.declared.Refusal.{Refusal}
-use Rattle.model.specs.declared.Answer.{Answer}
-use Rattle.model.specs.declared.Answer.the-variants.{Done, Refused}
+use Rattle.words.specs.declared.Refusal.{Refusal}
+use Rattle.words.specs.declared.Answer.{Answer}
+use Rattle.words.specs.declared.Answer.the-variants.{Done, Refused}
 use Rattle.model.specs.Raw.{layerOf}
 use Rattle.model.specs.Read.{touches, Part, wholeBase, bufferFront, emptyBase}
 use Rattle.model.specs.Calls.{readAnswer, seen, viewPart}

@@ -1,7 +1,7 @@
 // A view of a column that was read through a layer: the base column itself, or the filled front of the work buffer.
 use entry::Cursor;
 use entry::Sight;
-use model::Answer;
+use words::Answer;
 ghost use mathlib.Core.Path.{_≡_};
 ghost use lib.ListN.{length};
 ghost use Rattle.order.specs.Lists.{any};

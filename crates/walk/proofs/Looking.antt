@@ -12,18 +12,18 @@ use lib.Dec.{eqb}
 use borrow.Author.Tests.{eqb-true, eqb-false}
 use Rattle.order.specs.Lists.{firstAt}
 use Rattle.order.proofs.Splice.{drop-mem, pairs-drop}
-use Rattle.model.specs.declared.Entry.{Entry}
+use Rattle.words.specs.declared.Entry.{Entry}
 use Rattle.model.specs.Layer.{Edit, at, Layer, position}
 use Rattle.model.specs.Raw.{entryAt, deedOf, editOf, layerOf}
 use Rattle.model.specs.Edits.{before}
 use Rattle.model.specs.Conflict.{met, clashesWith, conflictPlace}
 use Rattle.model.specs.Move.{moved}
-use Rattle.model.proofs.Edits.{before-trans}
+use Rattle.theory.proofs.Edits.{before-trans}
 use Rattle.entry.specs.declared.Cursor.{Cursor}
-use Rattle.entry.specs.declared.Head.{Head}
-use Rattle.entry.specs.Head.{headOf, seen}
+use Rattle.head.specs.declared.Head.{Head}
+use Rattle.head.specs.Head.{headOf, seen}
 use Rattle.entry.specs.Look.{first, after, Placed}
-use Rattle.entry.proofs.Heads.{before-head, head-clash}
+use Rattle.head.proofs.Heads.{before-head, head-clash}
 use Rattle.entry.proofs.Looks.{Here, left-end, after-placed}
 use Rattle.walk.specs.declared.Mark.{Mark}
 use Rattle.walk.specs.Walk.{outset, Marks, Early, Parted, ruleAhead, Movable, Positions}

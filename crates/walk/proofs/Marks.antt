@@ -25,10 +25,11 @@ use Rattle.order.proofs.Tests.{not-passed}
 use Rattle.order.proofs.Counts.{count-append, count-same, count-zero, count-le}
 use Rattle.order.proofs.Splice.{pairs-drop}
 use Rattle.model.specs.Layer.{Edit, Layer, isAdd, isStrike}
-use Rattle.model.specs.Raw.{ADD, STRIKE, Held, entryAt, editOf, layerOf}
+use Rattle.model.specs.Raw.{Held, entryAt, editOf, layerOf}
+use Rattle.words.specs.Entry.{ADD, STRIKE}
 use Rattle.model.specs.Edits.{before}
-use Rattle.model.proofs.Raw.{layer-length}
-use Rattle.model.proofs.Edits.{before-trans}
+use Rattle.theory.proofs.Raw.{layer-length}
+use Rattle.theory.proofs.Edits.{before-trans}
 use Rattle.entry.specs.declared.Cursor.{Cursor}
 use Rattle.entry.specs.Look.{Placed}
 use Rattle.entry.proofs.Looks.{Here, left-step, room-here, after-placed}

@@ -23,9 +23,9 @@ use Rattle.model.specs.Position.{addUpTo, strikeBefore, rowOf}
 use Rattle.model.specs.Edits.{deedBefore, before}
 use Rattle.model.specs.Conflict.{struckRow, sameCell, sameKey, clash, met, clashesWith}
 use Rattle.model.specs.Move.{addBefore, addHereBelow, addPosition, moved}
-use Rattle.model.proofs.Edits.{before-cases, before-lt, before-eq, before-follows, deed-key}
-use Rattle.model.proofs.Conflict.{met-test}
-use Rattle.model.proofs.Position.{strikes-few}
+use Rattle.theory.proofs.Edits.{before-cases, before-lt, before-eq, before-follows, deed-key}
+use Rattle.theory.proofs.Conflict.{met-test}
+use Rattle.theory.proofs.Position.{strikes-few}
 use Rattle.walk.specs.Walk.{Parted, InOrder, ruleAhead, Matched}
 use Rattle.walk.proofs.Marks.{parted-count}
 

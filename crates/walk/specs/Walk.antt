@@ -9,7 +9,8 @@ use Rattle.order.specs.Lists.{one, count}
 use Rattle.order.proofs.Pairs.{AllPairs}
 use Rattle.model.specs.Row.{Row, key}
 use Rattle.model.specs.Layer.{Edit, at, add, Layer, position, isAdd, isStrike}
-use Rattle.model.specs.Raw.{ADD, STRIKE, Held, entryAt, editOf, layerOf}
+use Rattle.model.specs.Raw.{Held, entryAt, editOf, layerOf}
+use Rattle.words.specs.Entry.{ADD, STRIKE}
 use Rattle.model.specs.Edits.{before}
 use Rattle.model.specs.Conflict.{Rule, none, clash}
 use Rattle.model.specs.Move.{moved}

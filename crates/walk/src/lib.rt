@@ -1,13 +1,13 @@
 // One walk along two layers: the lowest entry of X in conflict with Y, and X's new positions.
 use entry::Cursor;
-use entry::Head;
-use model::Entry;
+use head::Head;
+use words::Entry;
 ghost use mathlib.Core.Path.{_≡_};
 ghost use Prim.Native.Nat.{_≤_, _<_};
 ghost use lib.ListN.{length, drop};
 ghost use Rattle.model.specs.Raw.{Held, layerOf};
 ghost use Rattle.model.specs.Conflict.{met, conflictPlace};
-ghost use Rattle.entry.specs.Head.{seen};
+ghost use Rattle.head.specs.Head.{seen};
 ghost use Rattle.entry.specs.Look.{Placed};
 ghost use Rattle.walk.specs.Walk.{outset, past, Marks, Early, Parted, InOrder, Movable, Positions, ruleAhead};
 
@@ -56,7 +56,7 @@ fn advance(c: usize, m: usize, layer: &[u64], from: Mark, e: Head) -> Mark
     while k.here.i < m {
         let at = k.here.at;
         let d = entry::head_at(c, at, layer);
-        if !entry::stands_before(d, e) {
+        if !head::stands_before(d, e) {
             return k;
         }
         k = k.past(c, d.kind);
@@ -71,7 +71,7 @@ fn clashes(c: usize, m: usize, layer: &[u64], k: Cursor, e: Head) -> bool
 {
     if k.i < m {
         let d = entry::head_at(c, k.at, layer);
-        return entry::rule_met(e, d) != 0;
+        return head::rule_met(e, d) != 0;
     }
     false
 }

@@ -9,7 +9,7 @@ use lib.Dec.{eqb}
 use borrow.Author.Tests.{eq-eqb, ne-eqb}
 use Rattle.model.specs.Cell.{put}
 use Rattle.model.specs.Layer.{add, strike, change, at, Layer}
-use Rattle.model.proofs.Cell.{put-length}
+use Rattle.theory.proofs.Cell.{put-length}
 use Rattle.entry.specs.declared.Sight.the-variants.{End, Add, Strike, Change}
 use Rattle.entry.specs.Look.{lookOf}
 use Rattle.entry.proofs.Looks.{look-end, look-add, look-strike, look-change}

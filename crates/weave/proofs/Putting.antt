@@ -6,24 +6,27 @@ use mathlib.Core.List.{List, [], _∷_, append-nil}
 use Prim.Native.Nat.{ℕ, _+_, _*_, _≤_, _<_}
 use native.Mathlib.Nat.{zero-mul, suc-mul, add-mul}
 use native.Mathlib.Omega.{arith}
-use lib.ListN.{length, drop}
+use lib.ListN.{length, getD, drop}
 use lib.Dec.{leb, ltb, eqb}
 use borrow.Author.Tests.{ltb-true, ltb-false, eqb-true}
 use Rattle.order.proofs.Tests.{and-r}
-use Rattle.model.specs.declared.Entry.{Entry}
-use Rattle.model.specs.Layer.{add, change, Edit, at, Layer}
-use Rattle.model.specs.Raw.{ADD, entryAt, entriesOf, editOf, layerOf, numbersOf, flat}
-use Rattle.model.proofs.Raw.{small}
+use Rattle.words.specs.declared.Entry.{Entry}
+use Rattle.model.specs.Cell.{CellEdit}
+use Rattle.model.specs.Layer.{add, change, Edit, at, Layer, position}
+use Rattle.model.specs.Raw.{entryAt, entriesOf, editOf, layerOf, numbersOf, flat}
+use Rattle.words.specs.Entry.{ADD, STRIKE}
+use Rattle.theory.proofs.Raw.{small}
+use Rattle.theory.proofs.Edits.{set-over}
 use Rattle.entry.proofs.Looks.{entries-step, left-step, left-end, room-here}
 use Rattle.form.proofs.Accepted.{Accepted, accepted}
-use Rattle.form.proofs.ByKind.{add-kind}
+use Rattle.form.proofs.ByKind.{add-kind, editBy}
 use Rattle.form.proofs.Flat.{entry-numbers}
 use Rattle.form.proofs.Laws.{vals-length}
-use Rattle.woven.specs.Woven.{placed, patched, patchedAdd}
+use Rattle.woven.specs.Woven.{placed, patched, patchedAdd, fused}
 use Rattle.turn.specs.declared.Place.{Place}
 use Rattle.turn.specs.declared.Puts.{Puts}
-use Rattle.turn.specs.declared.Puts.the-variants.{Nothing, AsItIs, UpperAt, Changed}
-use Rattle.turn.specs.Turn.{left}
+use Rattle.turn.specs.declared.Puts.the-variants.{Nothing, AsItIs, UpperAt, Changed, Fused}
+use Rattle.turn.specs.Turn.{left, Takes}
 use Rattle.turn.proofs.Turning.{first-in}
 use Rattle.weave.specs.Written.{Row, Leaves}
 use Rattle.weave.proofs.Patching.{patched-length}
@@ -57,6 +60,15 @@ entry-here {c} {n} {m} {xs} a i h p =
     entry-numbers c (record { pos = p; kind = e .kind; vals = e .vals })
     (vals-length c (i * (c + 2)) xs (room-here c m i xs (a .held) h)) (a .held .some)
     (a .zeroed e (first-in i (entriesOf c m xs) (drop (i + 1) (entriesOf c m xs)) e (entries-step c m i xs h)))
+
+-- an entry that changes a cell sets it: what the lower layer does to the cell is forgotten
+sets : (e : Edit) (f : Entry) → fused e (editOf f) ≡ placed (position e) (editOf f)
+sets (at p d) f = by (eqb (f .kind) ADD) (eqb (f .kind) STRIKE)
+  where
+    by : (a b : Bool) → fused (at p d) (editBy a b f) ≡ placed p (editBy a b f)
+    by true b = refl
+    by false true = refl
+    by false false = ap (λ (e : CellEdit). at p (change (f .kind) e)) (set-over (f .kind) (getD (f .vals) 0 0) d)
 
 -- an entry is left: it is there
 inside : (i m : ℕ) → (m ≤ i → ⊥) → i < m
@@ -148,15 +160,27 @@ module _ (c mR : ℕ) (r : List ℕ) (mW : ℕ) (w : List ℕ) (k : Place) (len 
           space = one-more c (k .m) len L (placed p (editOf F)) e (g .room);
         }
 
+  -- where a turn takes an edit of each layer, both are there
+  module _ {puts : Puts} (g : Leaves c mR r mW w k puts len) (upper : (X : Layer) → Takes puts X [] → ⊥)
+      (lower : (f : Edit) (Y : Layer) → Takes puts [] (f ∷ Y) → ⊥) where
+    both-there : (k .i < mR) × (k .j < mW)
+    both-there =
+        let j = inside (k .j) mW (λ h. upper (drop (k .i) R) (rw (left-end c mW (k .j) w h) at (g .takes))) in
+        let no : mR ≤ k .i → ⊥ = λ h.
+        lower (editOf F) (drop (k .j + 1) W) (rw (left-step c mW (k .j) w j, left-end c mR (k .i) r h) at (g .takes)) in
+        (inside (k .i) mR no, j)
+
+    room-there : (k .i * (c + 2) + (c + 2) ≤ length r) × (k .j * (c + 2) + (c + 2) ≤ length w)
+    room-there =
+        (room-here c mR (k .i) r (low g .held) (both-there .0), room-here c mW (k .j) w (up g .held) (both-there .1))
+
   -- the lower layer's added row with the upper's changes
   module _ (g : Leaves c mR r mW w k Changed len) where
-    pub both-in : (k .i < mR) × (k .j < mW)
-    both-in =
-        let j = inside (k .j) mW (λ h. rw (left-end c mW (k .j) w h) at (g .takes)) in
-        (inside (k .i) mR (λ h. rw (left-step c mW (k .j) w j, left-end c mR (k .i) r h) at (g .takes)), j)
+    both-in : (k .i < mR) × (k .j < mW)
+    both-in = both-there g (λ X h. h) (λ f Y h. h)
 
     pub both-room : (k .i * (c + 2) + (c + 2) ≤ length r) × (k .j * (c + 2) + (c + 2) ≤ length w)
-    both-room = (room-here c mR (k .i) r (low g .held) (both-in .0), room-here c mW (k .j) w (up g .held) (both-in .1))
+    both-room = room-there g (λ X h. h) (λ f Y h. h)
 
     abbrev patch : List ℕ
     patch = patched (F .pos) (drop (k .j) W) (E .vals)
@@ -183,6 +207,28 @@ module _ (c mR : ℕ) (r : List ℕ) (mW : ℕ) (w : List ℕ) (k : Place) (len 
           space = one-more c (k .m) len L x e (g .room);
         }
 
+  -- the upper layer's change over the lower's
+  module _ (g : Leaves c mR r mW w k Fused len) where
+    fused-in : (k .i < mR) × (k .j < mW)
+    fused-in = both-there g (λ X h. h) (λ f Y h. h)
+
+    pub fused-room : (k .i * (c + 2) + (c + 2) ≤ length r) × (k .j * (c + 2) + (c + 2) ≤ length w)
+    fused-room = room-there g (λ X h. h) (λ f Y h. h)
+
+    pub fused-put : Entered c (left Fused (drop (k .i) R) (drop (k .j) W)) (k .m) len (E .pos ∷ F .kind ∷ F .vals)
+    fused-put =
+        let L = left Fused (drop (k .i) R) (drop (k .j) W) in
+        let x = placed (E .pos) (editOf F) in
+        let e : L ≡ x ∷ [] =
+        rw (left-step c mR (k .i) r (fused-in .0), left-step c mW (k .j) w (fused-in .1))
+        (ap (λ (y : Edit). y ∷ []) (sets (editOf E) F)) in
+        record {
+          numbers = flat-one c L x (E .pos ∷ F .kind ∷ F .vals) e (entry-here (up g) (k .j) (fused-in .1) (E .pos));
+          width = omega (arith, vals-length c (k .j * (c + 2)) w (fused-room .1));
+          single = ap length e;
+          space = one-more c (k .m) len L x e (g .room);
+        }
+
 wide : (c : ℕ) {L : Layer} {m len : ℕ} {ys : List ℕ} → Entered c L m len ys → length (flat c L) ≡ length L * (c + 2)
 wide c {L} e =
     omega (
@@ -204,3 +250,4 @@ left-wide {c} {mR} {r} {mW} {w} {k} Nothing {len} g = sym (zero-mul (c + 2))
 left-wide {c} {mR} {r} {mW} {w} {k} AsItIs {len} g = wide c (lower-put c mR r mW w k len g)
 left-wide {c} {mR} {r} {mW} {w} {k} (UpperAt p) {len} g = wide c (upper-put c mR r mW w k len p g)
 left-wide {c} {mR} {r} {mW} {w} {k} Changed {len} g = wide c (changed-put c mR r mW w k len g)
+left-wide {c} {mR} {r} {mW} {w} {k} Fused {len} g = wide c (fused-put c mR r mW w k len g)

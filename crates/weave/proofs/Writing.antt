@@ -11,7 +11,7 @@ use lib.Seq.{length-take-le, drop-nil, drop-at, drop-drop}
 use Rattle.order.proofs.Splice.{part}
 use Rattle.model.specs.Layer.{Edit, Layer}
 use Rattle.model.specs.Raw.{layerOf, numbersOf, flat}
-use Rattle.model.proofs.Readback.{sound-wide}
+use Rattle.theory.proofs.Readback.{sound-wide}
 use Rattle.form.proofs.Accepted.{Accepted}
 use Rattle.woven.specs.Woven.{walk, wovenLayer}
 use Rattle.turn.specs.declared.Place.{Place}

@@ -85,6 +85,10 @@ fn put(c: usize, mr: usize, r: &[u64], mw: usize, w: &[u64], k: Place, puts: Put
                 &mut out[a..e],
             );
         }
+        // A change sets its cell, so the upper layer's value stands.
+        Puts::Fused => {
+            put_entry(c, entry::pos_at(c, at, r), bt, w, out, o);
+        }
     }
 }
 

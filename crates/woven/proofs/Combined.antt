@@ -20,13 +20,13 @@ use Rattle.model.specs.Fit.{fits, keysBelow}
 use Rattle.model.specs.Read.{read, keysAfter}
 use Rattle.model.specs.Redo.{combine}
 use Rattle.model.specs.Meaning.{keyOf}
-use Rattle.model.proofs.Layer.{changed-key, struck-of}
-use Rattle.model.proofs.Read.{Shown, shown}
-use Rattle.model.proofs.Fit.{Fit, Good, key-kept, key-of, keys-length, below-keys, good-of}
-use Rattle.model.proofs.Count.{read-ascends, read-count, read-length, addFrom, strikeFrom}
-use Rattle.model.proofs.Column.{keys-read, singles, keys-singles}
-use Rattle.model.proofs.Joined.{addsRow}
-use Rattle.model.proofs.Combine.{combine-good, meaning-combined, combine-rows, upper-good}
+use Rattle.theory.proofs.Layer.{changed-key, struck-of}
+use Rattle.theory.proofs.Read.{Shown, shown}
+use Rattle.theory.proofs.Fit.{Fit, Good, key-kept, key-of, keys-length, below-keys, good-of}
+use Rattle.theory.proofs.Count.{read-ascends, read-count, read-length, addFrom, strikeFrom}
+use Rattle.theory.proofs.Column.{keys-read, singles, keys-singles}
+use Rattle.theory.proofs.Joined.{addsRow}
+use Rattle.theory.proofs.Combine.{combine-good, meaning-combined, combine-rows, upper-good}
 use Rattle.woven.specs.Woven.{deed, wovenLayer}
 use Rattle.woven.proofs.Keyed.{keyed-order, key-position, keys-from, one-list}
 use Rattle.woven.proofs.Weaving.{addBelow, strikeBelow, Stands, Along, weave-all}

@@ -21,14 +21,15 @@ use Rattle.order.specs.Lists.{any, filter, insert, inTurn}
 use Rattle.order.proofs.Tests.{impossible, tests}
 use Rattle.order.proofs.Members.{any-none, none-any, filter-mem, insert-mem}
 use Rattle.model.specs.Row.{Row, key}
-use Rattle.model.specs.Cell.{CellEdit, put}
+use Rattle.model.specs.Cell.{CellEdit, over, put}
 use Rattle.model.specs.Layer.{Deed, add, strike, change}
-use Rattle.model.specs.Edits.{deedBefore}
-use Rattle.model.proofs.Joined.{
+use Rattle.model.specs.Edits.{deedBefore, overDeed}
+use Rattle.theory.proofs.Joined.{
   addsRow,
   changesColumn,
   putDeed,
   strikeDeeds,
+  composedDeeds,
   changeDeeds,
   strikeTo,
   changeTo,
@@ -159,11 +160,13 @@ past-change i j g e ds h n = rw (n, ne-eqb j i (λ z. omega arith), lt-ltb i j h
 change-no-add : (j : ℕ) (e : CellEdit) (ds : List Deed) → NoAdd ds → NoAdd (changeDeeds j e ds)
 change-no-add j e ds n = rw (n) (any-none addsRow _ each)
   where
-    each : (x : Deed) → Mem x (insert deedBefore (change j e) (filter (λ d. not (changesColumn j d)) ds))
-        → addsRow x ≡ false
-    each x m = go (insert-mem deedBefore (change j e) (filter (λ d. not (changesColumn j d)) ds) x m)
+    new : Deed
+    new = change j (composedDeeds j e ds)
+
+    each : (x : Deed) → Mem x (insert deedBefore new (filter (λ d. not (changesColumn j d)) ds)) → addsRow x ≡ false
+    each x m = go (insert-mem deedBefore new (filter (λ d. not (changesColumn j d)) ds) x m)
       where
-        go : (x ≡ change j e) ⊎ Mem x (filter (λ d. not (changesColumn j d)) ds) → addsRow x ≡ false
+        go : (x ≡ new) ⊎ Mem x (filter (λ d. not (changesColumn j d)) ds) → addsRow x ≡ false
         go (inl f) = ap addsRow f
         go (inr l) = none-any addsRow ds n x ((filter-mem (λ d. not (changesColumn j d)) ds x l) .0)
 
@@ -195,14 +198,48 @@ joined-earlier i j g e ds ws l h n =
     ∙ past-changes i g ws (changeDeeds j e ds) (λ y m. then-later i j g e l y (n y m)) (change-no-add j e ds x)
     ∙ ap (λ (t : List Deed). change i g ∷ t) (sym (only-changes j e ws ds n))
 
--- Drop: a change of the same column is replaced
-pub joined-replaced : (i j : ℕ) (g e : CellEdit) (ds ws : List Deed) → i ≡ j → After (change i g) ds
-    → After (change j e) ws
-    → joined (change i g ∷ ds) (change j e ∷ ws) ≡ joined ds (change j e ∷ ws)
-joined-replaced i j g e ds ws l h n =
+-- among deeds that may stand after one of its column, a change finds none of its column, and stands in front
+module _ (j : ℕ) (g : CellEdit) where
+  other : (y : Deed) → then (change j g) y ≡ true
+      → (not (changesColumn j y) ≡ true) × ((e : CellEdit) → (overDeed j e y ≡ e) × (deedBefore y (change j e) ≡ false))
+  other (add q) z = absurd (true≢false (sym z))
+  other (strike k) z = absurd (true≢false (sym z))
+  other (change a b) z =
+      let n = ne-eqb j a (λ w. omega tests) in
+      (ap not n, λ e. (ap (λ (t : Bool). cond t (over e b) e) n, le-ltb a j (omega tests)))
+
+  alone : (e : CellEdit) (xs : List Deed) → After (change j g) xs → composedDeeds j e xs ≡ e
+  alone e [] h = refl
+  alone e (y ∷ xs) h = ap (λ (f : CellEdit). overDeed j f y) (alone e xs (λ z m. h z (next m))) ∙ (other y (h y (here refl)) .1 e) .0
+
+  kept : (xs : List Deed) → After (change j g) xs → filter (λ d. not (changesColumn j d)) xs ≡ xs
+  kept [] h = refl
+  kept (y ∷ xs) h = rw (other y (h y (here refl)) .0) (ap (λ (t : List Deed). y ∷ t) (kept xs (λ z m. h z (next m))))
+
+  first : (e : CellEdit) (xs : List Deed) → After (change j g) xs → insert deedBefore (change j e) xs ≡ change j e ∷ xs
+  first e [] h = refl
+  first e (y ∷ xs) h = rw ((other y (h y (here refl)) .1 e) .1)
+
+-- Fuse: a change goes over one of the same column
+pub joined-fused : (i j : ℕ) (g e : CellEdit) (ds ws : List Deed) → i ≡ j → After (change i g) ds → After (change j e) ws
+    → joined (change i g ∷ ds) (change j e ∷ ws) ≡ change j (overDeed j e (change i g)) ∷ joined ds ws
+joined-fused i j g e ds ws l h n =
     only-changes j e ws (change i g ∷ ds) n
-    ∙ ap (inTurn changeTo ws) (rw (no-add (change i g) ds h, eq-eqb j i (sym l)))
-    ∙ sym (only-changes j e ws ds n)
+    ∙ ap (inTurn changeTo ws) front
+    ∙ past-changes j new ws ds n x
+    ∙ ap (λ (t : List Deed). change j new ∷ t) (sym (all-changes j e ws ds n))
+  where
+    new : CellEdit
+    new = overDeed j e (change i g)
+
+    x : NoAdd ds
+    x = no-add (change i g) ds h
+
+    late : After (change j g) ds
+    late = rw (← l) h
+
+    front : changeDeeds j e (change i g ∷ ds) ≡ change j new ∷ ds
+    front = rw (x, eq-eqb j i (sym l), alone j g e ds late, kept j g ds late) (first j g (over e g) ds late)
 
 -- UpperHere and Upper: a change of an earlier column than all of the lower layer's stands in front
 pub joined-later : (j : ℕ) (e : CellEdit) (ds ws : List Deed) → After (change j e) ds → After (change j e) ws
@@ -216,22 +253,8 @@ joined-later j e ds ws h n =
     x : NoAdd ds
     x = no-add (change j e) ds h
 
-    other : (y : Deed) → then (change j e) y ≡ true → (not (changesColumn j y) ≡ true)
-        × (deedBefore y (change j e) ≡ false)
-    other (add q) z = absurd (true≢false (sym z))
-    other (strike k) z = absurd (true≢false (sym z))
-    other (change a b) z = (ap not (ne-eqb j a (λ w. omega tests)), le-ltb a j (omega tests))
-
-    kept : (xs : List Deed) → After (change j e) xs → filter (λ d. not (changesColumn j d)) xs ≡ xs
-    kept [] g = refl
-    kept (y ∷ xs) g = rw (other y (g y (here refl)) .0) (ap (λ (t : List Deed). y ∷ t) (kept xs (λ z m. g z (next m))))
-
-    first : (xs : List Deed) → After (change j e) xs → insert deedBefore (change j e) xs ≡ change j e ∷ xs
-    first [] g = refl
-    first (y ∷ xs) g = rw (other y (g y (here refl)) .1)
-
     front : changeDeeds j e ds ≡ change j e ∷ ds
-    front = rw (x, kept ds h) (first ds h)
+    front = rw (x, alone j e e ds h, kept j e ds h) (first j e e ds h)
 
 strike-alone : (k : ℕ) (ws : List Deed) → After (strike k) ws → joined [] (strike k ∷ ws) ≡ strike k ∷ joined [] ws
 unfolding joined

@@ -18,9 +18,9 @@ use Rattle.model.specs.Layer.{Deed, add, strike, change, Edit, at, Layer, posit
 use Rattle.model.specs.Fit.{keysBelow}
 use Rattle.model.specs.Edits.{deedBefore, before}
 use Rattle.model.specs.Meaning.{keyOf, meaning}
-use Rattle.model.proofs.Edits.{before-cases}
-use Rattle.model.proofs.Fit.{Fit, key-of, below-keys}
-use Rattle.model.proofs.Meaning.{meaning-mem, position-of, changed-kept}
+use Rattle.theory.proofs.Edits.{before-cases}
+use Rattle.theory.proofs.Fit.{Fit, key-of, below-keys}
+use Rattle.theory.proofs.Meaning.{meaning-mem, position-of, changed-kept}
 use Rattle.woven.specs.Woven.{deed}
 use Rattle.woven.proofs.Deeds.{then, After}
 

@@ -8,8 +8,8 @@ use lib.ListN.{length, drop, length-drop, length-map}
 use Rattle.order.specs.Lists.{one}
 use Rattle.model.specs.Layer.{Edit, Layer, position, isAdd, isStrike}
 use Rattle.woven.specs.declared.Meets.{Meets}
-use Rattle.woven.specs.declared.Meets.the-variants.{Lower, Upper, UpperHere, Drop, Vanish, Patch}
-use Rattle.woven.specs.Woven.{stepOf, placed, rebased, changesAhead, patchedAdd, goesOn, woven, walk}
+use Rattle.woven.specs.declared.Meets.the-variants.{Lower, Upper, UpperHere, Drop, Vanish, Patch, Fuse}
+use Rattle.woven.specs.Woven.{stepOf, placed, rebased, changesAhead, patchedAdd, fused, goesOn, woven, walk}
 
 -- two walks on that agree on all shorter layers go on alike
 module _ (on to : ℕ → ℕ → Layer → Layer → Layer) (a s : ℕ) (e f : Edit) (R W : Layer)
@@ -24,6 +24,7 @@ module _ (on to : ℕ → ℕ → Layer → Layer → Layer) (a s : ℕ) (e f : 
       let k = changesAhead (position f) (f ∷ W) in
       ap (λ (L : Layer). patchedAdd (position f) (f ∷ W) e ∷ L)
       (agree (a + 1) s R (drop k (f ∷ W)) (omega (arith, length-drop k (f ∷ W))))
+  go-alike Fuse = ap (λ (L : Layer). fused e f ∷ L) (agree a s R W (omega arith))
 
 module _ (K N : List ℕ) where
   -- enough steps are as good as more
@@ -85,6 +86,7 @@ module _ (K N : List ℕ) where
       by Patch ih =
           let k = changesAhead (position f) (f ∷ W) in
           omega (arith, ih (a + 1) s R (drop k (f ∷ W)), length-drop k (f ∷ W))
+      by Fuse ih = omega (arith, ih a s R W)
 
   pub walk-most : (a s : ℕ) (R W : Layer) → length (walk K N a s R W) ≤ length R + length W
   walk-most a s R W = woven-most (length R + length W) a s R W

@@ -28,11 +28,11 @@ use Rattle.model.specs.Cell.{CellEdit, put}
 use Rattle.model.specs.Layer.{Deed, add, strike, change, Edit, at, Layer, position, isAdd, isStrike}
 use Rattle.model.specs.Fit.{keysBelow}
 use Rattle.model.specs.Meaning.{keyOf, meaning}
-use Rattle.model.proofs.Cell.{put-key}
-use Rattle.model.proofs.Joined.{addsRow, joined}
-use Rattle.model.proofs.Meaning.{meaning-mem}
-use Rattle.woven.specs.declared.Meets.the-variants.{Lower, Upper, UpperHere, Drop}
-use Rattle.woven.specs.Woven.{deed, meet, stepOf, placed, rebased, changesAhead, patched, goesOn, woven}
+use Rattle.theory.proofs.Cell.{put-key}
+use Rattle.theory.proofs.Joined.{addsRow, joined}
+use Rattle.theory.proofs.Meaning.{meaning-mem}
+use Rattle.woven.specs.declared.Meets.the-variants.{Lower, Upper, UpperHere, Fuse}
+use Rattle.woven.specs.Woven.{deed, meet, stepOf, placed, rebased, changesAhead, patched, fused, goesOn, woven}
 use Rattle.woven.proofs.Deeds.{
   then,
   After,
@@ -40,7 +40,7 @@ use Rattle.woven.proofs.Deeds.{
   joined-vanish,
   joined-struck,
   joined-earlier,
-  joined-replaced,
+  joined-fused,
   joined-later,
   joined-alone,
   joined-patch,
@@ -356,6 +356,18 @@ module _ {K N : List ℕ} {a s : ℕ} {e f : Edit} {R W : Layer} (g : Along K N 
               (eqb-true k l h) (rw (uppers-here, lowers) j)
           go false h = ap (λ (t : List Deed). joined t (meaning N (f ∷ W) l)) (other-lower l (eqb-false k l h))
 
+  -- Fuse: the edit x is both
+  fuse-step : {M : Layer} (x : Edit) → keyOf K x ≡ k → position x ≡ position e
+      → joined (deed e ∷ ds) (deed f ∷ ws) ≡ deed x ∷ joined ds ws
+      → Wove K N R W M → Wove K N (e ∷ R) (f ∷ W) (x ∷ M)
+  fuse-step x hk hp j w =
+      emit x k hk (hp ∙ g .lower-sits e (here refl)) w
+      (λ l h. (other-lower l h, other-upper l h))
+      (rw (uppers-here, lowers) j)
+      (λ y m. lowers-on y (next m))
+      uppers-on
+      (λ b hr hw. hr e (here refl))
+
   -- Vanish
   vanish-step : {M : Layer} → joined (deed e ∷ ds) (deed f ∷ ws) ≡ joined ds ws → Wove K N R W M
       → Wove K N (e ∷ R) (f ∷ W) M
@@ -603,24 +615,21 @@ one-key n {K} {N} {a} {s} p (add t) q (change j e) {R} {W} ih g same h =
 one-key n {K} {N} {a} {s} p (strike k) q (change j e) {R} {W} ih g same h = absurd (never-struck g same k refl refl)
 one-key n {K} {N} {a} {s} p (change i c) q (change j e) {R} {W} ih g same h = go (ltb i j) refl (eqb i j) refl
   where
-    pass-change : (a′ s′ : ℕ) → a′ ≡ a → s′ ≡ s → Along K N a′ s′ R (at q (change j e) ∷ W)
-    pass-change a′ s′ ea es =
-        pass (at q (change j e) ∷ W) g (g .upper) (λ y m. m) (λ y m. inr (refl, refl)) a′ s′ (omega arith) (omega arith)
-
     go : (u : Bool) → ltb i j ≡ u → (v : Bool) → eqb i j ≡ v
         → Wove K N (at p (change i c) ∷ R) (at q (change j e) ∷ W)
-        (goesOn (woven n K N) a s (at p (change i c)) (at q (change j e)) R W (cond u Lower (cond v Drop UpperHere)))
+        (goesOn (woven n K N) a s (at p (change i c)) (at q (change j e)) R W (cond u Lower (cond v Fuse UpperHere)))
     go true f v z =
         earlier-step g same
         (joined-earlier i j c e (meaning K R (getD K p 0)) (meaning N W (getD K p 0)) (ltb-true i j f)
         (lowers-after g same) (uppers-after g same))
         (ih (a + 0) (s + 0) R (at q (change j e) ∷ W) (omega arith)
-        (pass-change (a + 0) (s + 0) (omega arith) (omega arith)))
+        (pass (at q (change j e) ∷ W) g (g .upper) (λ y m. m) (λ y m. inr (refl, refl)) (a + 0) (s + 0) (omega arith) (omega arith)))
     go false f true z =
-        drop-step g same
-        (joined-replaced i j c e (meaning K R (getD K p 0)) (meaning N W (getD K p 0)) (eqb-true i j z)
+        fuse-step g same (fused (at p (change i c)) (at q (change j e))) refl refl
+        (joined-fused i j c e (meaning K R (getD K p 0)) (meaning N W (getD K p 0)) (eqb-true i j z)
         (lowers-after g same) (uppers-after g same))
-        (ih a s R (at q (change j e) ∷ W) (omega arith) (pass-change a s refl refl))
+        (ih a s R W (omega arith)
+        (pass W g (g .upper .1) (λ y m. next m) (λ y m. inr (refl, refl)) a s (omega arith) (omega arith)))
     go false f false z =
         here-step g same refl
         (joined-later j e (change i c ∷ meaning K R (getD K p 0)) (meaning N W (getD K p 0)) later

@@ -9,10 +9,11 @@ use Rattle.order.specs.Lists.{one}
 use Rattle.model.specs.Row.{Row}
 use Rattle.model.specs.Cell.{put}
 use Rattle.model.specs.Layer.{Deed, add, strike, change, Edit, at, Layer, position, isAdd, isStrike}
-use Rattle.model.specs.Raw.{ADD, STRIKE}
+use Rattle.model.specs.Edits.{overDeed}
+use Rattle.words.specs.Entry.{ADD, STRIKE}
 use Rattle.model.specs.Meaning.{keyOf}
 use Rattle.woven.specs.declared.Meets.{Meets}
-use Rattle.woven.specs.declared.Meets.the-variants.{Lower, Upper, UpperHere, Drop, Vanish, Patch}
+use Rattle.woven.specs.declared.Meets.the-variants.{Lower, Upper, UpperHere, Drop, Vanish, Patch, Fuse}
 
 abbrev pub deed : Edit → Deed
 deed (at s d) = d
@@ -27,14 +28,14 @@ meet (strike l) (strike k) = Drop
 meet (change i g) (strike k) = Drop
 meet (add q) (change j e) = Patch
 meet (strike l) (change j e) = Drop
-meet (change i g) (change j e) = cond (ltb i j) Lower (cond (eqb i j) Drop UpperHere)
+meet (change i g) (change j e) = cond (ltb i j) Lower (cond (eqb i j) Fuse UpperHere)
 
 -- the same by their kinds
 abbrev pub meetKinds : ℕ → ℕ → Meets
 meetKinds d q =
     cond (eqb q ADD) UpperHere
     (cond (eqb d ADD) (cond (eqb q STRIKE) Vanish Patch)
-    (cond (eqb q STRIKE || (eqb d STRIKE || eqb d q)) Drop (cond (ltb d q) Lower UpperHere)))
+    (cond (eqb q STRIKE || eqb d STRIKE) Drop (cond (ltb d q) Lower (cond (eqb d q) Fuse UpperHere))))
 
 -- the lower key goes first: by the keys a and b that both edits concern, and by the key columns
 abbrev pub stepBy : ℕ → ℕ → Edit → Edit → Meets
@@ -68,6 +69,12 @@ patchedAdd p W (at s (add r)) = at s (add (patched p W r))
 patchedAdd p W (at s (strike k)) = at s (strike k)
 patchedAdd p W (at s (change j e)) = at s (change j e)
 
+-- the upper's change over the lower's of its column, at the lower's position
+abbrev pub fused : Edit → Edit → Edit
+fused (at p d) (at s (add r)) = at p (add r)
+fused (at p d) (at s (strike k)) = at p (strike k)
+fused (at p d) (at s (change j e)) = at p (change j (overDeed j e d))
+
 -- where the walk goes on from two next edits, with the lower layer's adds and strikes passed
 abbrev pub goesOn : (ℕ → ℕ → Layer → Layer → Layer) → ℕ → ℕ → Edit → Edit → Layer → Layer → Meets → Layer
 goesOn on a s e f R W Lower = e ∷ on (a + one (isAdd e)) (s + one (isStrike e)) R (f ∷ W)
@@ -77,6 +84,7 @@ goesOn on a s e f R W Drop = on a s R (f ∷ W)
 goesOn on a s e f R W Vanish = on (a + 1) s R W
 goesOn on a s e f R W Patch =
     patchedAdd (position f) (f ∷ W) e ∷ on (a + 1) s R (drop (changesAhead (position f) (f ∷ W)) (f ∷ W))
+goesOn on a s e f R W Fuse = fused e f ∷ on a s R W
 
 -- the walk, of at most so many steps; of all that is left of both layers; and of all of both layers
 unfoldable pub woven : ℕ → List ℕ → List ℕ → ℕ → ℕ → Layer → Layer → Layer

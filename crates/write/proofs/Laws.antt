@@ -23,7 +23,7 @@ use lib.Seq.{paste, paste-zero, length-take-le, drop-at, drop-drop, take-append-
 use lib.Dec.{leb}
 use borrow.Author.Tests.{leb-true, leb-false}
 use Rattle.run.proofs.Laws.{copy-more, paste-paste}
-use Rattle.model.specs.declared.Entry.{Entry}
+use Rattle.words.specs.declared.Entry.{Entry}
 use Rattle.model.specs.Raw.{Held, room}
 use Rattle.write.specs.Splice.{entryNumbers, movedTail, coming}
 

@@ -23,16 +23,17 @@ use Rattle.order.specs.Lists.{gather}
 use Rattle.order.proofs.Ascending.{At, at-length}
 use Rattle.order.proofs.Edited.{at-head, at-tail, at-none}
 use Rattle.order.proofs.Splice.{take-mem, part}
-use Rattle.model.specs.declared.Answer.{Answer}
-use Rattle.model.specs.declared.Answer.the-variants.{Done, Refused}
+use Rattle.words.specs.declared.Answer.{Answer}
+use Rattle.words.specs.declared.Answer.the-variants.{Done, Refused}
 use Rattle.model.specs.Row.{Row}
 use Rattle.model.specs.Cell.{to, put}
 use Rattle.model.specs.Layer.{Edit, at, add, strike, change, Layer}
-use Rattle.model.specs.Raw.{numbersOf, flat, strikeEntry, changeEntry}
+use Rattle.model.specs.Raw.{numbersOf, flat}
+use Rattle.words.specs.Entry.{strikeEntry, changeEntry}
 use Rattle.model.specs.Edits.{changeAdded}
 use Rattle.model.specs.Refusals.{firstMet, noRoom}
 use Rattle.model.specs.Calls.{edited}
-pub use Rattle.model.proofs.Readback.{sound-wide}
+pub use Rattle.theory.proofs.Readback.{sound-wide}
 use Rattle.write.specs.declared.Splice.{Splice}
 use Rattle.write.specs.Splice.{
   entryNumbers,

@@ -1,6 +1,6 @@
 // Edits written into a layer's slice: entries replaced by one entry or by none, the tail behind them moved once.
-use model::Answer;
-use model::Entry;
+use words::Answer;
+use words::Entry;
 ghost use mathlib.Core.Path.{_≡_};
 ghost use mathlib.Core.List.{_++_};
 ghost use Prim.Native.Nat.{_+_, _-_, _*_, _≤_, _<_};
@@ -15,8 +15,8 @@ pub fn room_of(c: usize, len: usize) -> usize
     ensures { λ r. ⌜ r ≡ room c len ⌝ }
 {
     let whole = len / (c + 2);
-    if model::MOST_ENTRIES < whole {
-        return model::MOST_ENTRIES;
+    if words::MOST_ENTRIES < whole {
+        return words::MOST_ENTRIES;
     }
     whole
 }

@@ -1,8 +1,8 @@
--- `card::kw_add` meets its contract: the two numbers are those of `edit::add`'s answer, and the slice is as it left it.
+-- `card::kw_add` meets its contract: the two numbers are those of `add::add`'s answer, and the slice is as it left it.
 -- Assumes nothing.
 use borrow.Author.Needs.{needs}
 use mathlib.Core.Path.{_∙_, ap}
-use Rattle.model.specs.Answer.{numberOf, valueOf}
+use Rattle.words.specs.Answer.{numberOf, valueOf}
 use Rattle.card.proofs.kw_add.Statement.{statement}
 use Rattle.card.proofs.kw_add.Tie as tie
 

@@ -9,16 +9,13 @@ use Rattle.card.proofs.kw_view.Tie as tie
 view-part-requires : tie.Need-view-part-requires
 view-part-requires c κs = search needs
 
-number-requires : tie.Need-number-requires
-number-requires c κs = search needs
-
-value-requires : tie.Need-value-requires
-value-requires c κs = search needs
+tell-part-requires : tie.Need-tell-part-requires
+tell-part-requires c κs = search needs
 
 returns : tie.Need-returns
 returns c =
-    let f = c .before .before .view-part .ensures in
-    (c .before .number .ensures ∙ ap seenNumber f, c .value .ensures ∙ ap seenValue f)
+    let f = c .before .view-part .ensures in
+    (c .tell-part .ensures .0 ∙ ap seenNumber f, c .tell-part .ensures .1 ∙ ap seenValue f)
 
 pub kw-view-spec : {M : Type 1} → statement M
-kw-view-spec = tie.close (tie.spec view-part-requires number-requires value-requires returns)
+kw-view-spec = tie.close (tie.spec view-part-requires tell-part-requires returns)

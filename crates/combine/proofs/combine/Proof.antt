@@ -7,13 +7,13 @@ use mathlib.Core.List.{List}
 use Prim.Native.Nat.{ℕ, _+_, _*_, _≤_}
 use lib.ListN.{length}
 use lib.Dec.{ltb}
-use Rattle.model.specs.declared.Answer.{Answer}
-use Rattle.model.specs.declared.Answer.the-variants.{Done}
+use Rattle.words.specs.declared.Answer.{Answer}
+use Rattle.words.specs.declared.Answer.the-variants.{Done}
 use Rattle.model.specs.Raw.{room}
 use Rattle.over.specs.Over.{over, Named}
 use Rattle.turn.specs.Turn.{Both}
-use Rattle.combine.specs.Checked.{bothAnswer, NamedIf}
-use Rattle.combine.proofs.Answers.{both-refused}
+use Rattle.stacked.specs.Checked.{bothAnswer, NamedIf}
+use Rattle.stacked.proofs.Answers.{both-refused}
 use Rattle.combine.proofs.Joining.{low, both, whole, fit, short, there, enough, written-whole, kept}
 use Rattle.combine.proofs.combine.Statement.{statement}
 use Rattle.combine.proofs.combine.Tie as tie

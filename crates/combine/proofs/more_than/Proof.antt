@@ -5,7 +5,7 @@ use mathlib.Core.Path.{refl, sym}
 use lib.ListN.{length}
 use Rattle.order.proofs.Tests.{impossible}
 use Rattle.model.specs.Raw.{layerOf}
-use Rattle.model.proofs.Raw.{layer-length}
+use Rattle.theory.proofs.Raw.{layer-length}
 use borrow.Author.Needs.{needs}
 use borrow.Author.Tests.{le-ltb}
 use Rattle.over.specs.Over.{over}

@@ -8,7 +8,7 @@ use Prim.Native.Nat.{ℕ, _*_, _+_}
 use lib.ListN.{drop}
 use Rattle.model.specs.Raw.{entryAt, layerOf}
 use Rattle.entry.specs.Look.{lookOf}
-use Rattle.entry.specs.Head.{headOf}
+use Rattle.head.specs.Head.{headOf}
 use Rattle.entry.proofs.Looks.{left-end, room-here, found, look-head}
 use Rattle.entry.proofs.look.Statement.{statement}
 use Rattle.entry.proofs.look.Tie as tie

@@ -2,7 +2,7 @@
 -- Assumes nothing.
 use borrow.Author.Needs.{needs}
 use mathlib.Core.Path.{sym}
-use Rattle.model.proofs.Raw.{value-at}
+use Rattle.theory.proofs.Raw.{value-at}
 use Rattle.entry.proofs.value_at.Statement.{statement}
 use Rattle.entry.proofs.value_at.Tie as tie
 

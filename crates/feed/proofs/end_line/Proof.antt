@@ -2,7 +2,7 @@
 -- Assumes nothing.
 use native.Mathlib.Omega.{arith}
 use lib.Seq.{length-take-le}
-use Rattle.feed.proofs.Feeding.{ended}
+use Rattle.feed.proofs.Feeding.{ended, writes-on}
 use borrow.Author.Needs.{needs}
 use Rattle.feed.proofs.end_line.Statement.{statement}
 use Rattle.feed.proofs.end_line.Tie as tie
@@ -23,8 +23,8 @@ returns c =
     let start = c .before .before .before .before .before .before .before .before .before in
     let a = start .args in
     let w = c .say .ensures in
-    ended (a .feed) _ _ (a .line .now) (a .out .now) _ _ _ (start .pre .0 .standing)
-    (c .before .before .before .hear .ensures) (w .0) (w .1)
+    let h = c .before .before .before .hear .ensures in
+    (ended (a .feed) _ _ (a .line .now) (a .out .now) _ _ _ (start .pre .0 .standing) h (w .0) (w .1), writes-on (w .0))
 
 pub end-line-spec : {M : Type 1} → statement M
 end-line-spec =

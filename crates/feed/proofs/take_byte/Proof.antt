@@ -10,7 +10,9 @@ end-line-requires : tie.Need-end-line-requires
 end-line-requires c κs = search needs
 
 returns : tie.Need-returns
-returns c = took-line _ (c .before .before .before .before .before .before .if1 .taken) (c .end-line .ensures)
+returns c =
+    let w = c .end-line .ensures in
+    (took-line _ (c .before .before .before .before .before .before .if1 .taken) (w .0), w .1)
 
 keep-requires : tie.Need-keep-requires
 keep-requires c κs = search needs
@@ -20,8 +22,10 @@ returns-2 c =
     let start = c .before .before .before .before in
     let a = start .args in
     let w = c .keep .ensures in
+    let t =
     took-byte (a .feed) (sheetOf (a .table .now) (a .layer .now)) (a .line .now) _ (a .out .now) (a .b) _
-    (c .before .before .before .if1 .left) (start .pre .standing) (w .0) (w .1)
+    (c .before .before .before .if1 .left) (start .pre .standing) (w .0) (w .1) in
+    (t, λ old v. v)
 
 pub take-byte-spec : {M : Type 1} → statement M
 take-byte-spec =

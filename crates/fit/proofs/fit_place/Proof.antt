@@ -6,7 +6,7 @@ use native.Mathlib.Omega.{arith}
 use mathlib.Core.Path.{_≡_, sym, _∙_}
 use Prim.Native.Nat.{_+_, _-_, _≤_}
 use lib.ListN.{length}
-use Rattle.model.proofs.Raw.{here}
+use Rattle.theory.proofs.Raw.{here}
 use Rattle.suit.proofs.Looks.{fine, first-at}
 use Rattle.fit.proofs.Fitting.{Fitting, begin, sound-here, onward, stop, end}
 use Rattle.fit.proofs.fit_place.Statement.{statement}

@@ -7,7 +7,7 @@ use mathlib.Core.Path.{_≡_, sym, _∙_}
 use mathlib.Core.Bool.{true}
 use lib.ListN.{length}
 use Rattle.order.specs.Lists.{ascending}
-use Rattle.model.specs.declared.Answer.the-variants.{Done}
+use Rattle.words.specs.declared.Answer.the-variants.{Done}
 use Rattle.model.specs.Calls.{formAnswer}
 use Rattle.form.proofs.Accepted.{in-form}
 use Rattle.fit.proofs.Answers.{form-refused, keys-refused, place-refused, ready-done}
@@ -57,7 +57,7 @@ returns-2 c =
     let e = t .before .before in
     c .refused2 .ensures
     ∙ place-refused _ _ _ _ _ (formed (e .before .before .before)) (rising e) _ (t .before .fit-place .ensures)
-    (t .if2 .taken)
+    (omega (arith, t .if2 .taken))
 
 returns-3 : tie.Need-returns-3
 returns-3 c =
@@ -67,7 +67,8 @@ returns-3 c =
 returns-4 : tie.Need-returns-4
 returns-4 c =
     let e = c .before .before in
-    ready-done _ _ _ _ _ (formed (e .before .before .before)) (rising e) _ (c .before .fit-place .ensures) (c .if2 .left)
+    ready-done _ _ _ _ _ (formed (e .before .before .before)) (rising e) _ (c .before .fit-place .ensures)
+    (omega (arith, c .if2 .left))
 
 pub ready-spec : {M : Type 1} → statement M
 ready-spec =

@@ -4,7 +4,7 @@ use borrow.Author.Needs.{needs}
 use borrow.Author.Tests.{lt-leb, le-leb}
 use native.Mathlib.Omega.{arith}
 use mathlib.Core.Bool.{and-false}
-use Rattle.model.proofs.Raw.{small}
+use Rattle.theory.proofs.Raw.{small}
 use Rattle.model.specs.Form.{argsOk}
 use Rattle.form.proofs.args_ok.Statement.{statement}
 use Rattle.form.proofs.args_ok.Tie as tie

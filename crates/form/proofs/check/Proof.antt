@@ -7,7 +7,7 @@ use mathlib.Core.Path.{_≡_, sym, _∙_}
 use mathlib.Core.Bool.{true}
 use lib.ListN.{length}
 use Rattle.model.specs.Form.{argsOk}
-use Rattle.model.proofs.Raw.{args-held}
+use Rattle.theory.proofs.Raw.{args-held}
 use Rattle.form.proofs.Formed.{Counted, args-refused, place-refused, counted}
 use Rattle.form.proofs.check.Statement.{statement}
 use Rattle.form.proofs.check.Tie as tie

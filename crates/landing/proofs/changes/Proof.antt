@@ -6,7 +6,7 @@ use mathlib.Core.Path.{_≡_, refl, sym, ap, _∙_}
 use mathlib.Core.Bool.{false}
 use lib.ListN.{drop}
 use Rattle.model.specs.Raw.{layerOf}
-use Rattle.model.proofs.Raw.{small}
+use Rattle.theory.proofs.Raw.{small}
 use Rattle.entry.specs.Look.{lookOf}
 use Rattle.landing.specs.Landing.{changesFirst}
 use Rattle.landing.proofs.Landed.{isChange, changes-by, changes-none}

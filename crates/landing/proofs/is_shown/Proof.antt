@@ -7,8 +7,9 @@ use mathlib.Core.Bool.{Bool, false, not, _&&_, _||_}
 use Prim.Native.Nat.{_+_, _*_, _≤_}
 use lib.ListN.{drop}
 use lib.Dec.{eqb}
-use Rattle.model.specs.Raw.{ADD, layerOf}
-use Rattle.model.proofs.Raw.{small}
+use Rattle.model.specs.Raw.{layerOf}
+use Rattle.words.specs.Entry.{ADD}
+use Rattle.theory.proofs.Raw.{small}
 use Rattle.model.specs.Read.{keysAfter}
 use Rattle.model.specs.Refusals.{shownKey}
 use Rattle.entry.specs.Look.{lookOf}

@@ -9,9 +9,9 @@ use Prim.Native.Nat.{ℕ, _+_, _*_, _-_, _≤_}
 use lib.ListN.{length, drop}
 use Rattle.model.specs.Raw.{entryAt, editOf, layerOf}
 use Rattle.model.specs.Edits.{before}
-use Rattle.entry.specs.declared.Head.{Head}
-use Rattle.entry.specs.Head.{headOf, seen}
-use Rattle.entry.proofs.Heads.{head-before}
+use Rattle.head.specs.declared.Head.{Head}
+use Rattle.head.specs.Head.{headOf, seen}
+use Rattle.head.proofs.Heads.{head-before}
 use Rattle.entry.proofs.Looks.{room-here, near, after-placed}
 use Rattle.landing.specs.Landing.{aim, landing}
 use Rattle.landing.proofs.Landed.{landing-step, landing-stop, landing-end}

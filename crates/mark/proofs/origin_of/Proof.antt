@@ -9,7 +9,7 @@ use Rattle.model.specs.Layer.{isAdd}
 use Rattle.model.specs.Raw.{layerOf}
 use Rattle.model.specs.Calls.{originAnswer}
 use Rattle.model.specs.Position.{back}
-use Rattle.model.proofs.Raw.{layer-length}
+use Rattle.theory.proofs.Raw.{layer-length}
 use Rattle.mark.specs.Walk.{originFrom}
 use Rattle.mark.proofs.Walk.{walk-back}
 use Rattle.mark.proofs.Marking.{from-first, here-base, here-own}

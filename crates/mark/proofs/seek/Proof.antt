@@ -5,7 +5,7 @@ use native.Mathlib.Omega.{arith}
 use mathlib.Core.Path.{_≡_, sym, _∙_}
 use Prim.Native.Nat.{_-_, _<_}
 use Rattle.model.specs.Raw.{layerOf}
-use Rattle.model.proofs.Raw.{layer-length}
+use Rattle.theory.proofs.Raw.{layer-length}
 use Rattle.entry.proofs.Looks.{near}
 use Rattle.mark.specs.Walk.{Marks}
 use Rattle.mark.proofs.Marking.{set-off, some-left, goes}

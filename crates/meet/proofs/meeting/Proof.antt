@@ -23,8 +23,27 @@ returns-5 c =
 
 returns-6 : tie.Need-returns-6
 returns-6 c =
-    let d = c .before .before in
-    rw (ne-eqb _ _ (d .before .if1 .left), ne-eqb _ _ (d .if2 .left), c .before .if4 .left, le-ltb _ _ (c .if5 .left))
+    let b = c .before in
+    let d = b .before .before in
+    rw (
+      ne-eqb _ _ (d .before .if1 .left),
+      ne-eqb _ _ (d .if2 .left),
+      b .before .if4 .left,
+      le-ltb _ _ (b .if5 .left),
+      eq-eqb _ _ (c .if6 .taken),
+    )
+
+returns-7 : tie.Need-returns-7
+returns-7 c =
+    let b = c .before in
+    let d = b .before .before in
+    rw (
+      ne-eqb _ _ (d .before .if1 .left),
+      ne-eqb _ _ (d .if2 .left),
+      b .before .if4 .left,
+      le-ltb _ _ (b .if5 .left),
+      ne-eqb _ _ (c .if6 .left),
+    )
 
 pub meeting-spec : {M : Type 1} → statement M
-meeting-spec = tie.close (tie.spec returns returns-2 returns-3 returns-4 returns-5 returns-6)
+meeting-spec = tie.close (tie.spec returns returns-2 returns-3 returns-4 returns-5 returns-6 returns-7)

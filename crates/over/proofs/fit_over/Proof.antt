@@ -9,9 +9,10 @@ use Prim.Native.Nat.{ℕ, _+_, _-_, _≤_, _<_}
 use lib.ListN.{length, getD}
 use mir.Val.{Fits}
 use mir.Syntax.{w64}
-use Rattle.model.specs.Raw.{ADD, entryAt}
-use Rattle.model.specs.declared.Entry.{Entry}
-use Rattle.entry.specs.declared.Head.{Head}
+use Rattle.model.specs.Raw.{entryAt}
+use Rattle.words.specs.Entry.{ADD}
+use Rattle.words.specs.declared.Entry.{Entry}
+use Rattle.head.specs.declared.Head.{Head}
 use Rattle.over.specs.Over.{over}
 use Rattle.over.proofs.Overlooking.{
   Overlooking,

@@ -5,7 +5,7 @@ use mathlib.Core.Path.{_≡_, sym, ap, _∙_}
 use Prim.Native.Nat.{_-_}
 use lib.Dec.{eqb}
 use Rattle.model.specs.Raw.{entryAt, entriesAt}
-use Rattle.entry.specs.declared.Head.{Head}
+use Rattle.head.specs.declared.Head.{Head}
 use Rattle.over.proofs.Around.{fits-add, fits-strike, fits-change}
 use Rattle.over.proofs.fits.Statement.{statement}
 use Rattle.over.proofs.fits.Tie as tie

@@ -3,11 +3,11 @@
 use borrow.Author.Needs.{needs}
 use native.Mathlib.Omega.{arith}
 use mathlib.Core.Path.{_≡_, sym, _∙_}
-use Rattle.model.specs.declared.Answer.the-variants.{Done}
+use Rattle.words.specs.declared.Answer.the-variants.{Done}
 use Rattle.model.specs.Raw.{layerOf}
 use Rattle.fit.proofs.Answers.{ready-form}
 use Rattle.walk.specs.Walk.{Movable}
-use Rattle.pass.proofs.Stages.{checked}
+use Rattle.pair.proofs.Stages.{checked}
 use Rattle.pass.proofs.Sides.{Sides, movable}
 use Rattle.pass.proofs.Moving.{checked-refused, ready, clash-refused, rows-refused, passes}
 use Rattle.pass.proofs.move_past.Statement.{statement}

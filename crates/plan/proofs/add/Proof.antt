@@ -5,7 +5,8 @@ use native.Mathlib.Omega.{arith}
 use mathlib.Core.Path.{_≡_, ap, _∙_}
 use Prim.Native.Nat.{ℕ}
 use Rattle.model.specs.Row.{key}
-use Rattle.model.specs.Raw.{ADD, addEntry, layerOf}
+use Rattle.model.specs.Raw.{layerOf}
+use Rattle.words.specs.Entry.{ADD, addEntry}
 use Rattle.model.specs.Fit.{keysBelow}
 use Rattle.model.specs.Read.{keysAfter}
 use Rattle.model.specs.Refusals.{shownKey}

@@ -6,7 +6,7 @@ use lib.ListN.{length}
 use Rattle.model.specs.Raw.{layerOf}
 use Rattle.model.specs.Position.{back}
 use Rattle.model.specs.Calls.{originAnswer}
-use Rattle.model.proofs.Origin.{origin-never}
+use Rattle.theory.proofs.Origin.{origin-never}
 use Rattle.landing.proofs.Known.{Known, known}
 use Rattle.plan.proofs.Planned.{of-base, strike-of-base, strike-of-added}
 use Rattle.plan.proofs.strike.Statement.{statement}

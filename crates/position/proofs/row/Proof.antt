@@ -7,8 +7,8 @@ use lib.IntN.{ℤ, natAbs}
 use lib.Signed.{nonNeg}
 use mir.Syntax.{w64}
 use mir.Val.{toZ, ofZ}
-use Rattle.model.specs.declared.Answer.the-variants.{Done}
-use Rattle.position.proofs.Signed.{bits-small}
+use Rattle.words.specs.declared.Answer.the-variants.{Done}
+use Rattle.tally.proofs.Signed.{bits-small}
 use Rattle.position.proofs.Answers.{Asked, asked, row-shifted}
 use Rattle.position.proofs.row.Statement.{statement}
 use Rattle.position.proofs.row.Tie as tie

@@ -3,10 +3,11 @@
 use borrow.Author.Needs.{needs}
 use native.Mathlib.Omega.{arith}
 use mathlib.Core.Path.{sym, ap, _∙_}
-use Rattle.model.specs.declared.Shifted.the-variants.{By}
+use Rattle.words.specs.declared.Shifted.the-variants.{By}
 use Rattle.form.proofs.Accepted.{Accepted, accepted}
-use Rattle.position.proofs.Signed.{read-back}
-use Rattle.position.proofs.Answers.{shift-past, shift-within, shift-small}
+use Rattle.tally.proofs.Signed.{read-back}
+use Rattle.tally.proofs.Small.{shift-small}
+use Rattle.position.proofs.Answers.{shift-past, shift-within}
 use Rattle.position.proofs.shift.Statement.{statement}
 use Rattle.position.proofs.shift.Tie as tie
 

@@ -1,7 +1,7 @@
 -- `position::shifted` meets its contract: the sum fits a signed integer, and it is not negative.
 -- Assumes nothing.
 use borrow.Author.Needs.{needs}
-use Rattle.position.proofs.Signed.{sum-fits, sum-row, row-read}
+use Rattle.position.proofs.Sums.{sum-fits, sum-row, row-read}
 use Rattle.position.proofs.shifted.Statement.{statement}
 use Rattle.position.proofs.shifted.Tie as tie
 

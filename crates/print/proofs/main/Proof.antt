@@ -1,67 +1,113 @@
 -- `print::main` meets its contract: the lines read and the blocks left stay below 2^62 together.
 -- Assumes nothing.
 use native.Mathlib.Omega.{arith}
-use mathlib.Core.Path.{refl, sym}
-use Prim.Native.Nat.{_+_, _*_, _≤_}
-use lib.Seq.{length-take-le}
+use mathlib.Core.Path.{_≡_, ap}
+use Prim.Native.Nat.{ℕ, _+_, _*_, _≤_}
+use lib.ListN.{length, length-replicate}
 use Rattle.text.proofs.Writing.{wrote-within}
+use Rattle.feed.specs.declared.Feed.{Feed}
+use Rattle.feed.specs.Input.{Ready}
 use borrow.Author.Needs.{needs}
-use Rattle.print.specs.Going.{Going}
-use Rattle.print.proofs.Blocks.{room-for, bounded}
+use Rattle.blocks.proofs.Blocks.{moved, ready-begun, ready-for, few-lines, still-ready}
 use Rattle.print.proofs.main.Statement.{statement}
 use Rattle.print.proofs.main.Tie as tie
 
 abbrev Inv-loop : tie.InvT-loop
-Inv-loop table₀ layer₀ line₀ out₀ fed₀ left₀ table layer line out fed left =
-    (fed .counts .lines + left * 4096 ≤ 4611686018427387904) × Going 4611686018427387904 fed
+Inv-loop table₀ layer₀ line₀ out₀ block₀ fed₀ left₀ t11 t12 t13 table layer line out block fed left =
+    Ready 4096 fed × (fed .counts .lines + left * 4096 ≤ 4611686018427387904) × (length block ≡ 4096)
 
 abbrev μ-loop : tie.MeasureT-loop
-μ-loop table₀ layer₀ line₀ out₀ fed₀ left₀ table layer line out fed left = left
+μ-loop table₀ layer₀ line₀ out₀ block₀ fed₀ left₀ t11 t12 t13 table layer line out block fed left = left
+
+start-requires : tie.Need-start-requires Inv-loop μ-loop
+start-requires c κs = search needs
 
 loop-holds : tie.Need-loop-holds Inv-loop μ-loop
-loop-holds c = (omega arith, record { standing = omega arith; short = omega arith; empty = refl; counted = omega arith })
+loop-holds c =
+    let e = c .start .ensures in
+    (ready-begun e, omega (arith, ap (λ (f : Feed). f .counts .lines) e), length-replicate {A = ℕ} 4096 0)
+
+slice-aggregate-read : tie.Need-slice-aggregate-read Inv-loop μ-loop
+slice-aggregate-read c = search needs
+
+read-requires : tie.Need-read-requires Inv-loop μ-loop
+read-requires c κs = search needs
 
 take-some-requires : tie.Need-take-some-requires Inv-loop μ-loop
 take-some-requires c κs =
-    let l = c .before .before .before .before .before .loop in
-    let room = room-for 4096 4611686018427387904 (l .fed) (omega arith) (omega arith) (l .inv .1) in
-    (c .before .before .before .before .loop-test .taken, room, l .inv .1 .empty)
+    let r = c .before .before .before .before .before .before in
+    (moved (r .read .result) (r .read .ensures) (search needs), r .before .before .before .loop .inv .0)
+
+sub-left : tie.Need-sub-left Inv-loop μ-loop
+sub-left c = search needs
+
+enum-told : tie.Need-enum-told Inv-loop μ-loop
+enum-told c = search needs
+
+write-text-requires : tie.Need-write-text-requires Inv-loop μ-loop
+write-text-requires c κs = wrote-within (omega arith) (c .before .before .before .before .take-some .ensures .1)
+
+slice-aggregate-fail : tie.Need-slice-aggregate-fail Inv-loop μ-loop
+slice-aggregate-fail c = search needs
+
+fail-requires : tie.Need-fail-requires Inv-loop μ-loop
+fail-requires c κs = search needs
+
+returns : tie.Need-returns Inv-loop μ-loop
+returns c = search needs
 
 loop-less : tie.Need-loop-less Inv-loop μ-loop
 loop-less c = search needs
 
 loop-again : tie.Need-loop-again Inv-loop μ-loop
 loop-again c =
-    let l = c .before .before .before .before .before .before .before .loop in
-    let before = l .inv .0 in
-    let w = c .before .take-some .ensures in
-    let fewer = w .0 in
-    (omega (arith, w .1 .counted), bounded 4611686018427387904 _ (omega (arith, w .1 .counted)) (w .1))
+    let t = c .before .before .before .before .before .before in
+    let l = t .before .before .before .before .before .before .before .before .before .before .loop .inv .1 in
+    let b = t .take-some .ensures .0 in
+    (still-ready b (omega arith), omega (arith, few-lines b), search needs)
 
-end-input-requires : tie.Need-end-input-requires Inv-loop μ-loop
-end-input-requires c κs =
-    let l = c .before .before .before .before .before .loop in
-    room-for 1 4611686018427387904 (l .fed) (omega arith) (omega arith) (l .inv .1)
+enum-told-2 : tie.Need-enum-told-2 Inv-loop μ-loop
+enum-told-2 c = search needs
 
-write-text-requires : tie.Need-write-text-requires Inv-loop μ-loop
-write-text-requires c κs =
-    let l = c .before .before .before .before .before .before .before .loop in
-    omega (arith, c .before .end-input .ensures .said, l .inv .1 .empty)
+loop-less-2 : tie.Need-loop-less-2 Inv-loop μ-loop
+loop-less-2 c = search needs
 
-finish-requires : tie.Need-finish-requires Inv-loop μ-loop
-finish-requires c κs = search needs
+loop-again-2 : tie.Need-loop-again-2 Inv-loop μ-loop
+loop-again-2 c =
+    let t = c .before .before .before in
+    let l = t .before .before .before .before .before .before .before .before .before .before .loop .inv .1 in
+    let b = t .take-some .ensures .0 in
+    (still-ready b (omega arith), omega (arith, few-lines b), search needs)
 
-array-share-prefix-out : tie.Need-array-share-prefix-out Inv-loop μ-loop
-array-share-prefix-out c = wrote-within (omega arith) (c .finish .ensures)
+enum-told-3 : tie.Need-enum-told-3 Inv-loop μ-loop
+enum-told-3 c = search needs
 
-slice-aggregate-write-all : tie.Need-slice-aggregate-write-all Inv-loop μ-loop
-slice-aggregate-write-all c = sym (length-take-le _ _ (wrote-within (omega arith) (c .before .finish .ensures)))
+slice-aggregate-fail-2 : tie.Need-slice-aggregate-fail-2 Inv-loop μ-loop
+slice-aggregate-fail-2 c = search needs
 
-write-all-requires : tie.Need-write-all-requires Inv-loop μ-loop
-write-all-requires c κs = search needs
+fail-requires-2 : tie.Need-fail-requires-2 Inv-loop μ-loop
+fail-requires-2 c κs = search needs
 
-returns : tie.Need-returns Inv-loop μ-loop
-returns c = search needs
+returns-2 : tie.Need-returns-2 Inv-loop μ-loop
+returns-2 c = search needs
+
+close-requires : tie.Need-close-requires Inv-loop μ-loop
+close-requires c κs = ready-for (omega arith) (c .before .before .before .before .before .loop .inv .0)
+
+write-text-requires-2 : tie.Need-write-text-requires-2 Inv-loop μ-loop
+write-text-requires-2 c κs = wrote-within (omega arith) (c .before .close .ensures)
+
+slice-aggregate-fail-3 : tie.Need-slice-aggregate-fail-3 Inv-loop μ-loop
+slice-aggregate-fail-3 c = search needs
+
+fail-requires-3 : tie.Need-fail-requires-3 Inv-loop μ-loop
+fail-requires-3 c κs = search needs
+
+returns-3 : tie.Need-returns-3 Inv-loop μ-loop
+returns-3 c = search needs
+
+returns-4 : tie.Need-returns-4 Inv-loop μ-loop
+returns-4 c = search needs
 
 pub main-spec : {M : Type 1} → statement M
 main-spec =
@@ -69,14 +115,29 @@ main-spec =
     (tie.spec
     Inv-loop
     μ-loop
+    start-requires
     loop-holds
+    slice-aggregate-read
+    read-requires
     take-some-requires
+    sub-left
+    enum-told
+    write-text-requires
+    slice-aggregate-fail
+    fail-requires
+    returns
     loop-less
     loop-again
-    end-input-requires
-    write-text-requires
-    finish-requires
-    array-share-prefix-out
-    slice-aggregate-write-all
-    write-all-requires
-    returns)
+    enum-told-2
+    loop-less-2
+    loop-again-2
+    enum-told-3
+    slice-aggregate-fail-2
+    fail-requires-2
+    returns-2
+    close-requires
+    write-text-requires-2
+    slice-aggregate-fail-3
+    fail-requires-3
+    returns-3
+    returns-4)

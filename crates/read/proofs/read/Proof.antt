@@ -3,7 +3,7 @@
 use borrow.Author.Needs.{needs}
 use mathlib.Core.Path.{_≡_, sym, ap, _∙_}
 use lib.ListN.{length}
-use Rattle.model.specs.declared.Answer.the-variants.{Done}
+use Rattle.words.specs.declared.Answer.the-variants.{Done}
 use Rattle.model.specs.Calls.{readAnswer}
 use Rattle.read.proofs.Answers.{Finished, done, slice-after}
 use Rattle.read.proofs.read.Statement.{statement}
@@ -12,8 +12,8 @@ use Rattle.read.proofs.read.Tie as tie
 answer-requires : tie.Need-answer-requires
 answer-requires c κs = search needs
 
-enum-known-x : tie.Need-enum-known-x
-enum-known-x c = search needs
+enum-known-why : tie.Need-enum-known-why
+enum-known-why c = search needs
 
 enum-told : tie.Need-enum-told
 enum-told c = search needs
@@ -37,7 +37,7 @@ read-part-requires c κs = finished (c .before) .readable
 
 returns : tie.Need-returns
 returns c =
-    let e = sym (c .before .x .given .1) ∙ c .before .before .before .answer .ensures in
+    let e = sym (c .before .why .given .1) ∙ c .before .before .before .answer .ensures in
     (e, slice-after _ _ _ _ _ _ _ e)
 
 same-length : tie.Need-same-length
@@ -53,4 +53,4 @@ returns-2 c =
 pub read-spec : {M : Type 1} → statement M
 read-spec =
     tie.close
-    (tie.spec answer-requires enum-known-x enum-told read-part-requires returns same-length returns-2)
+    (tie.spec answer-requires enum-known-why enum-told read-part-requires returns same-length returns-2)

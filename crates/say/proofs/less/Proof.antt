@@ -1,7 +1,7 @@
 -- `say::less` is safe: the difference of two small numbers fits a signed integer.
 -- Assumes nothing.
 use borrow.Author.Needs.{needs}
-use Rattle.position.proofs.Signed.{less-fits}
+use Rattle.tally.proofs.Signed.{less-fits}
 use Rattle.say.proofs.less.Statement.{statement}
 use Rattle.say.proofs.less.Tie as tie
 

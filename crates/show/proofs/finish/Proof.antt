@@ -2,7 +2,7 @@
 -- Assumes nothing.
 use native.Mathlib.Omega.{arith}
 use mathlib.Core.Path.{_≡_, sym, _∙_}
-use Rattle.model.specs.declared.Answer.the-variants.{Done}
+use Rattle.words.specs.declared.Answer.the-variants.{Done}
 use Rattle.model.specs.Calls.{formAnswer}
 use Rattle.base.specs.Base.{sheetOf}
 use Rattle.show.proofs.Printed.{few-shown, header-alone, header-rows}
@@ -33,7 +33,7 @@ put-table-requires c κs =
     let e = c .before .before .before .before .before .before .before .before .put-bytes .ensures .end in
     let f : formAnswer 3 (a .counts .rows) (a .counts .entries) (a .layer .now) ≡ Done (k .0 .0) =
     sym (c .before .before .before .before .before .before .check .ensures) ∙ k .1 in
-    let few = few-shown (a .counts .rows) (a .counts .entries) (k .0 .0) (a .layer .now) (start .pre) f in
+    let few = few-shown (a .counts .rows) (a .counts .entries) (k .0 .0) (a .layer .now) (start .pre .0) f in
     (f, omega arith, search needs, few, omega arith)
 
 returns : tie.Need-returns
@@ -41,7 +41,7 @@ returns c =
     let a = c .before .before .before .before .before .before .before .args in
     let w = c .before .before .before .before .put-bytes .ensures in
     let told = c .enum-told .given in
-    header-alone (a .counts) (sheetOf (a .table .now) (a .layer .now)) (a .out .now) _ _ w
+    header-alone (a .counts) (sheetOf (a .table .now) (a .layer .now)) (a .out .now) _ _ _ w
     (told .0 .0) (c .before .before .check .ensures) (told .1)
 
 returns-2 : tie.Need-returns-2
@@ -49,7 +49,7 @@ returns-2 c =
     let a = c .before .before .before .before .before .before .before .before .before .before .before .before .args in
     let w = c .before .before .before .before .before .before .before .before .before .put-bytes .ensures in
     let told = c .before .before .before .before .before .rows .given in
-    header-rows (a .counts) (sheetOf (a .table .now) (a .layer .now)) (a .out .now) _ _ w
+    header-rows (a .counts) (sheetOf (a .table .now) (a .layer .now)) (a .out .now) _ _ _ w
     (told .0 .0) _ _ (c .before .before .before .before .before .before .before .check .ensures) (told .1) (c .put-table .ensures)
 
 pub finish-spec : {M : Type 1} → statement M

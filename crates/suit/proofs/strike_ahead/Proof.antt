@@ -8,8 +8,9 @@ use Prim.Native.Nat.{_+_, _*_, _-_, _≤_}
 use mathlib.Core.Bool.{_&&_, _||_}
 use lib.ListN.{length, getD}
 use lib.Dec.{eqb}
-use Rattle.model.specs.Raw.{STRIKE, entriesAt}
-use Rattle.model.proofs.Raw.{here, next}
+use Rattle.model.specs.Raw.{entriesAt}
+use Rattle.words.specs.Entry.{STRIKE}
+use Rattle.theory.proofs.Raw.{here, next}
 use Rattle.suit.specs.Suit.{struckAhead}
 use Rattle.suit.proofs.Looks.{ahead-step, ahead-end}
 use Rattle.suit.proofs.strike_ahead.Statement.{statement}

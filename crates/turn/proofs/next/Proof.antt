@@ -7,10 +7,10 @@ use Prim.Native.Nat.{ℕ, _+_, _*_, _-_, _≤_, _<_}
 use lib.ListN.{length, getD, drop}
 use Rattle.model.specs.Layer.{Layer}
 use Rattle.model.specs.Raw.{entryAt, editOf, layerOf}
-use Rattle.model.specs.declared.Entry.{Entry}
-use Rattle.entry.specs.declared.Head.{Head}
+use Rattle.words.specs.declared.Entry.{Entry}
+use Rattle.head.specs.declared.Head.{Head}
 use Rattle.woven.specs.declared.Meets.{Meets}
-use Rattle.woven.specs.declared.Meets.the-variants.{Lower, Upper, UpperHere, Drop, Vanish, Patch}
+use Rattle.woven.specs.declared.Meets.the-variants.{Lower, Upper, UpperHere, Drop, Vanish, Patch, Fuse}
 use Rattle.woven.specs.Woven.{changesAhead}
 use Rattle.over.specs.Over.{over}
 use Rattle.turn.specs.declared.Place.{Place}
@@ -235,6 +235,18 @@ add-t46 c = omega (arith, few (s (c .before .before .before .before)))
 add-t47 : tie.Need-add-t47
 add-t47 c = omega (arith, few (s (c .before .before .before .before .before)))
 
+enum-told-7 : tie.Need-enum-told-7
+enum-told-7 c = search needs
+
+add-t50 : tie.Need-add-t50
+add-t50 c = search needs
+
+add-t51 : tie.Need-add-t51
+add-t51 c = search needs
+
+add-t52 : tie.Need-add-t52
+add-t52 c = omega (arith, few (s (c .before .before .before)))
+
 returns-2 : tie.Need-returns-2
 returns-2 c =
     let t = c .before .before .before .before .before .before .before in
@@ -270,6 +282,9 @@ returns-7 c =
     let b = s m in
     patch-turned (b .pre .0) (b .pre .1) (b .pre .2) (e m .before .if1 .left) _ (counted n)
     ∙ turns-by m Patch (n .before .enum-told6 .given .1)
+
+returns-8 : tie.Need-returns-8
+returns-8 c = turns-by (c .before .before .before) Fuse (c .before .enum-told7 .given .1)
 
 pub next-spec : {M : Type 1} → statement M
 next-spec =
@@ -311,9 +326,14 @@ next-spec =
     add-t45
     add-t46
     add-t47
+    enum-told-7
+    add-t50
+    add-t51
+    add-t52
     returns-2
     returns-3
     returns-4
     returns-5
     returns-6
-    returns-7)
+    returns-7
+    returns-8)

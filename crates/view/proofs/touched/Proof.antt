@@ -11,7 +11,6 @@ use Rattle.order.specs.Lists.{any}
 use Rattle.model.specs.Raw.{layerOf}
 use Rattle.model.specs.Read.{touches}
 use Rattle.entry.specs.declared.Cursor.{Cursor}
-use Rattle.entry.specs.declared.Sight.{Sight}
 use Rattle.entry.specs.Look.{Placed, lookOf}
 use Rattle.entry.proofs.Looks.{near, after-placed}
 use Rattle.view.specs.View.{shows}
@@ -38,8 +37,7 @@ judged : (c : tie.After-shows Inv-loop μ-loop) →
     let t = c .before .before in
     let a = start t .args in
     shows (a .j) (lookOf (drop (head t .loop .k .i) (layerOf (a .c) (a .m) (a .layer .now)))) ≡ c .shows .result
-judged c =
-    sym (c .shows .ensures ∙ ap (λ (f : Sight). shows (start (c .before .before) .args .j) f) (c .before .look .ensures))
+judged c = rw (← c .before .look .ensures) (sym (c .shows .ensures))
 
 first-requires : tie.Need-first-requires Inv-loop μ-loop
 first-requires c κs = search needs

@@ -2,7 +2,7 @@
 -- Assumes nothing.
 use borrow.Author.Needs.{needs}
 use mathlib.Core.Path.{_≡_, refl, sym, _∙_}
-use Rattle.model.specs.declared.Answer.the-variants.{Done}
+use Rattle.words.specs.declared.Answer.the-variants.{Done}
 use Rattle.model.specs.Calls.{readAnswer}
 use Rattle.read.proofs.Answers.{done}
 use Rattle.view.proofs.Viewing.{front-viewed, base-viewed, none-viewed}

@@ -6,12 +6,13 @@ use native.Mathlib.Omega.{arith}
 use mathlib.Core.Path.{_≡_, sym, ap, _∙_}
 use Prim.Native.Nat.{ℕ, _-_}
 use lib.Dec.{eqb}
-use Rattle.model.specs.Raw.{ADD, STRIKE, entryAt, editOf, layerOf}
+use Rattle.model.specs.Raw.{entryAt, editOf, layerOf}
+use Rattle.words.specs.Entry.{ADD, STRIKE}
 use Rattle.model.specs.Edits.{before}
-use Rattle.model.proofs.Raw.{layer-length}
-use Rattle.entry.specs.declared.Head.{Head}
-use Rattle.entry.specs.Head.{seen}
-use Rattle.entry.proofs.Heads.{head-before}
+use Rattle.theory.proofs.Raw.{layer-length}
+use Rattle.head.specs.declared.Head.{Head}
+use Rattle.head.specs.Head.{seen}
+use Rattle.head.proofs.Heads.{head-before}
 use Rattle.entry.proofs.Looks.{Here, near}
 use Rattle.form.proofs.ByKind.{add-kind, strike-kind}
 use Rattle.walk.specs.declared.Mark.{Mark}

@@ -8,9 +8,9 @@ use lib.Dec.{eqb}
 use Rattle.model.specs.Layer.{Layer}
 use Rattle.model.specs.Raw.{entryAt}
 use Rattle.model.specs.Conflict.{clash, met}
-use Rattle.entry.specs.declared.Head.{Head}
-use Rattle.entry.specs.Head.{seen}
-use Rattle.entry.proofs.Heads.{clash-head, met-number}
+use Rattle.head.specs.declared.Head.{Head}
+use Rattle.head.specs.Head.{seen}
+use Rattle.head.proofs.Heads.{clash-head, met-number}
 use Rattle.entry.proofs.Looks.{left-end}
 use Rattle.walk.specs.Walk.{ruleAhead}
 use Rattle.walk.proofs.Marks.{entry-here, entry-room}

@@ -5,7 +5,7 @@ use native.Mathlib.Omega.{arith}
 use mathlib.Core.Path.{sym, ap, _∙_}
 use Prim.Native.Nat.{_-_, _≤_, _<_}
 use lib.ListN.{length}
-use Rattle.model.proofs.Raw.{layer-length}
+use Rattle.theory.proofs.Raw.{layer-length}
 use Rattle.entry.specs.declared.Cursor.{Cursor}
 use Rattle.entry.proofs.Looks.{near}
 use Rattle.walk.proofs.Marks.{entry-room, few}

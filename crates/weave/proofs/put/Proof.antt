@@ -8,11 +8,11 @@ use Prim.Native.Nat.{ℕ, _+_, _*_, _-_, _≤_}
 use lib.ListN.{length, take, drop}
 use borrow.Rule.Slice.PartMut.{putMid}
 use Rattle.model.specs.Layer.{Layer}
-use Rattle.model.specs.declared.Entry.{Entry}
+use Rattle.words.specs.declared.Entry.{Entry}
 use Rattle.model.specs.Raw.{entryAt, layerOf, flat}
 use Rattle.form.proofs.Laws.{vals-length}
 use Rattle.turn.specs.declared.Puts.{Puts}
-use Rattle.turn.specs.declared.Puts.the-variants.{Nothing, AsItIs, UpperAt, Changed}
+use Rattle.turn.specs.declared.Puts.the-variants.{Nothing, AsItIs, UpperAt, Changed, Fused}
 use Rattle.turn.specs.Turn.{left}
 use Rattle.woven.specs.Woven.{patched}
 use Rattle.weave.specs.Written.{Put, Row, Leaves}
@@ -29,6 +29,8 @@ use Rattle.weave.proofs.Putting.{
   upper-put,
   both-room,
   changed-put,
+  fused-room,
+  fused-put,
   flat-none,
 }
 use Rattle.weave.proofs.put.Statement.{statement}
@@ -246,6 +248,40 @@ returns-4 c =
 same-length-3 : tie.Need-same-length-3
 same-length-3 c = search needs
 
+-- the upper layer's change over the lower's
+enum-told-4 : tie.Need-enum-told-4
+enum-told-4 c = search needs
+
+module _ (c : tie.After-enum-told4) where
+  abbrev y : tie.After-struct-known3
+  y = c .before .before
+
+  fuses : let a = s y .args in Leaves (a .c) (a .mr) (a .r .now) (a .mw) (a .w .now) (a .k) Fused (len y)
+  fuses = leaves y Fused (c .enum-told4 .given .1)
+
+pos-at-requires-4 : tie.Need-pos-at-requires-4
+pos-at-requires-4 c κs = fused-room _ _ _ _ _ _ _ (fuses c) .0
+
+put-entry-requires-4 : tie.Need-put-entry-requires-4
+put-entry-requires-4 c κs =
+    let g = fuses (c .before .before) in (fused-room _ _ _ _ _ _ _ g .1, fused-put _ _ _ _ _ _ _ g .space)
+
+returns-5 : tie.Need-returns-5
+returns-5 c =
+    let t = c .before .before in
+    let p = t .before .before in
+    let q = p .before in
+    let h = y q in
+    let z = F h in
+    let f = t .put-entry4 in
+    shows h Fused (q .enum-told4 .given .1) (E h .pos ∷ z .kind ∷ z .vals) (f .last .1 .1 .1 .1 .0)
+    (fused-put _ _ _ _ _ _ _ (fuses q) .numbers)
+    (subst (λ (n : ℕ). Put (n ∷ z .kind ∷ z .vals) (s h .args .out .now) (s h .args .k .m * (s h .args .c + 2))
+    (f .last .1 .1 .1 .1 .0)) (p .pos-at4 .ensures) (f .ensures))
+
+same-length-4 : tie.Need-same-length-4
+same-length-4 c = search needs
+
 returns : tie.Need-returns
 returns c =
     let d = c .before .before in
@@ -278,10 +314,15 @@ put-spec =
     part-patch-start
     part-patch-end
     patch-requires
+    enum-told-4
+    pos-at-requires-4
+    put-entry-requires-4
     returns
     same-length
     returns-2
     same-length-2
     returns-3
     same-length-3
-    returns-4)
+    returns-4
+    same-length-4
+    returns-5)

@@ -7,7 +7,7 @@ use mathlib.Core.Path.{refl}
 use Prim.Native.Nat.{_+_, _*_, _-_, _≤_}
 use lib.ListN.{take, drop}
 use Rattle.order.proofs.Tests.{impossible}
-use Rattle.model.proofs.Raw as raw
+use Rattle.theory.proofs.Raw as raw
 use Rattle.weave.proofs.Buffer.{put-paste}
 use Rattle.weave.proofs.rest_if.Statement.{statement}
 use Rattle.weave.proofs.rest_if.Tie as tie

@@ -7,7 +7,7 @@ use mathlib.Core.Bool.{true}
 use Prim.Native.Nat.{_+_, _-_, _≤_}
 use lib.ListN.{length}
 use Rattle.model.specs.Raw.{layerOf}
-use Rattle.model.proofs.Raw.{layer-length}
+use Rattle.theory.proofs.Raw.{layer-length}
 use Rattle.over.specs.Over.{over}
 use Rattle.turn.proofs.Turning.{low, small}
 use Rattle.turn.proofs.Onward.{Next, next-of}

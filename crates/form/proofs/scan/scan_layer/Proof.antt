@@ -8,7 +8,7 @@ use mathlib.Core.Bool.{_&&_}
 use Prim.Native.Nat.{_+_, _-_, _≤_}
 use lib.ListN.{length}
 use Rattle.model.specs.Raw.{entryAt}
-use Rattle.model.proofs.Raw.{here}
+use Rattle.theory.proofs.Raw.{here}
 use Rattle.form.specs.Scan.{goodAfter}
 use Rattle.form.proofs.Scanning.{Scanning, begin, onward, stop, end}
 use Rattle.form.proofs.scan.scan_layer.Statement.{statement}

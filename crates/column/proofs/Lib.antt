@@ -1,0 +1,5 @@
+pub mod Same
+pub mod Rows
+pub mod Writing
+pub mod Going
+pub mod Unique

@@ -1,0 +1,10 @@
+pub mod Places
+pub mod FormExactly
+pub mod FitExactly
+pub mod Exactly
+pub mod Tables
+pub mod Literal
+pub mod Numbers
+pub mod Rightful
+pub mod Viewed
+pub mod Slices

@@ -1,0 +1,53 @@
+-- What an edit answers past the first four refusals, and what it leaves in the slice.
+-- Assumes nothing.
+use Prim.Native.Nat.{ℕ, _+_, _≤_}
+use native.Mathlib.Omega.{arith}
+use mathlib.Core.Path.{_≡_, sym, ap, _∙_}
+use mathlib.Core.List.{List, [], _∷_}
+use lib.ListN.{length}
+use Rattle.words.specs.declared.Refusal.{Refusal}
+use Rattle.words.specs.declared.Answer.{Answer}
+use Rattle.words.specs.declared.Answer.the-variants.{Done, Refused}
+use Rattle.model.specs.Layer.{Layer}
+use Rattle.model.specs.Raw.{Held, layerOf}
+use Rattle.model.specs.Refusals.{firstMet, noRoom}
+use Rattle.model.specs.Calls.{edited, readyAnswer}
+use Rattle.theory.proofs.Stages.{onward}
+use Rattle.write.specs.declared.Splice.{Splice}
+use Rattle.write.specs.Splice.{spliced, enterAnswer, ifDone}
+use Rattle.write.specs.Plans.{Plans}
+use Rattle.write.proofs.Layers.{plan-answer, plan-edited}
+use Rattle.landing.proofs.Known.{Known}
+use Rattle.plan.proofs.Planned.{written}
+
+-- a plan for a known layer may be entered
+pub may-enter : {c m : ℕ} {raw K : List ℕ} {M : Layer} {p : Splice} → Known c m raw K → Plans c (layerOf c m raw) M p
+    → Held c m raw × (p .i + p .gone ≤ m) × (p .comes ≤ 1)
+may-enter N P = (N .acc .held, omega (arith, P .within, N .acc .size), P .few)
+
+-- the answer where only the test of the room is left
+abbrev pub last : ℕ → List ℕ → Layer → Answer
+last c raw M = firstMet Refused (noRoom c (length raw) M ∷ []) (Done (length M))
+
+-- A call whose answer is a, towards the layer M: its answer r, and what the slice then holds.
+module _ (c m : ℕ) (raw : List ℕ) (a : Answer) (M : Layer) where
+  abbrev pub Leaves : Answer → List ℕ → Type 0
+  Leaves r new = (r ≡ a) × (new ≡ edited c m a M raw)
+
+  pub refuses : (r : Answer) (x : Refusal) → r ≡ Refused x → Refused x ≡ a → Leaves r raw
+  refuses r x f e = (f ∙ e, ap (λ (t : Answer). edited c m t M raw) e)
+
+  pub enters : {K : List ℕ} → Known c m raw K → last c raw M ≡ a → {p : Splice} → Plans c (layerOf c m raw) M p
+      → (r : Answer) (new : List ℕ) → (r ≡ enterAnswer c m p (length raw)) × (new ≡ ifDone r (spliced c m p raw) raw)
+      → Leaves r new
+  enters N e P r new w =
+      let f : r ≡ a = w .0 ∙ (plan-answer c m raw (layerOf c m raw) (written N) P ∙ e) in
+      (f, w .1 ∙ (plan-edited c m raw (layerOf c m raw) (written N) P r ∙ ap (λ (t : Answer). edited c m t M raw) f))
+
+-- past the first four refusals
+module _ (c m : ℕ) (raw K : List ℕ) {a : Answer} (z : Answer) (e : a ≡ onward Refused (readyAnswer c m raw K) z) where
+  pub as-before : (x : Refusal) → readyAnswer c m raw K ≡ Refused x → Refused x ≡ a
+  as-before x h = sym (e ∙ ap (λ (t : Answer). onward Refused t z) h)
+
+  pub go-on : (k : ℕ) → readyAnswer c m raw K ≡ Done k → z ≡ a
+  go-on k h = sym (e ∙ ap (λ (t : Answer). onward Refused t z) h)

@@ -1,0 +1,1 @@
+// What follows from the scope's definitions alone: theorems, no code.
