@@ -28,6 +28,7 @@
  *      9  the result needs more entries than the room
  *     10  the result passes 4,096 rows
  *     11  buffer shorter than what is to be written
+ *     12  no file of ours: under 32 bytes, a trailer that does not match the length, or a note over 256 bytes
  *
  * For the second of two layers (W, Y) 1,000 is added to the place of 2 and 4. Other places are 0.
  *
@@ -112,6 +113,26 @@ struct kw_answer kw_combine(size_t c, const uint64_t *keys, size_t n, size_t mr,
  * value: m of x. */
 struct kw_answer kw_move(size_t c, const uint64_t *keys, size_t n, size_t mx, uint64_t *x, size_t x_len, size_t my,
                          const uint64_t *y, size_t y_len);
+
+/* A LAYER IN A FILE is bytes: a note of 0 to 256 bytes, which is yours; the entries as 64-bit numbers, little end first; a trailer of
+ * four such numbers: bytes from the file's end back to the first entry (32 + 8 m (c + 2)), entries m, columns c, base rows n.
+ * Refusals, in this order: 12 for a file under 32 bytes, 1 for the trailer's c, n or m past its limits, 12 for a trailer that does
+ * not match the length or a note over 256 bytes, 2 for a layer that breaks form, 11 for a buffer that is too short.
+ *
+ * These four answer a plain number. The check: the refusal's number, 0 where the file is accepted. The others: of an accepted
+ * file, and 0 of a refused one. No accepted file has 0 columns. Ask for them before you lend kw_load a slice of m (c + 2) numbers. */
+uint64_t kw_file_check(const uint8_t *file, size_t len);
+uint64_t kw_file_entries(const uint8_t *file, size_t len);
+uint64_t kw_file_columns(const uint8_t *file, size_t len);
+uint64_t kw_file_rows(const uint8_t *file, size_t len);
+/* Where the note of an accepted file ends, which is where the first entry begins; 0 where it has none, or is refused. */
+size_t kw_file_note(const uint8_t *file, size_t len);
+
+/* Reads the entries to the front of layer; the rest of it stays. Refusals 12 1 12 2 11, as above. value: m. */
+struct kw_answer kw_load(const uint8_t *file, size_t len, uint64_t *layer, size_t layer_len);
+
+/* Writes a layer over n base rows to the front of file, with no note; the rest of it stays. Refusals 1 2 11. value: the bytes written. */
+struct kw_answer kw_save(size_t c, size_t n, size_t m, const uint64_t *layer, size_t layer_len, uint8_t *file, size_t len);
 
 #ifdef __cplusplus
 }

@@ -2,6 +2,7 @@
 
 pub mod calls;
 pub mod diff;
+pub mod file;
 pub mod scope;
 
 /// A small generator of numbers, so that a printed seed repeats a run.

@@ -66,7 +66,7 @@ pub fn rows_after(n: usize, layer: &[Entry]) -> usize {
 }
 
 /// Refusal 2, if any: its place.
-fn form(c: usize, n: usize, layer: &[Entry]) -> Option<usize> {
+pub(crate) fn form(c: usize, n: usize, layer: &[Entry]) -> Option<usize> {
     for i in 0..layer.len() {
         if !alone(c, n, &layer[i]) || (0..i).any(|h| !together(&layer[h], &layer[i])) {
             return Some(i);

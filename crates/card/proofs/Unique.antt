@@ -32,6 +32,20 @@ use Rattle.card.proofs.kw_combine.Kinds as combine-call
 use Rattle.card.proofs.kw_combine.Reads as combine-promise
 use Rattle.card.proofs.kw_move.Kinds as move-call
 use Rattle.card.proofs.kw_move.Reads as move-promise
+use Rattle.card.proofs.kw_file_check.Kinds as file-check-call
+use Rattle.card.proofs.kw_file_check.Reads as file-check-promise
+use Rattle.card.proofs.kw_file_entries.Kinds as file-entries-call
+use Rattle.card.proofs.kw_file_entries.Reads as file-entries-promise
+use Rattle.card.proofs.kw_file_columns.Kinds as file-columns-call
+use Rattle.card.proofs.kw_file_columns.Reads as file-columns-promise
+use Rattle.card.proofs.kw_file_rows.Kinds as file-rows-call
+use Rattle.card.proofs.kw_file_rows.Reads as file-rows-promise
+use Rattle.card.proofs.kw_file_note.Kinds as file-note-call
+use Rattle.card.proofs.kw_file_note.Reads as file-note-promise
+use Rattle.card.proofs.kw_load.Kinds as load-call
+use Rattle.card.proofs.kw_load.Reads as load-promise
+use Rattle.card.proofs.kw_save.Kinds as save-call
+use Rattle.card.proofs.kw_save.Reads as save-promise
 
 -- two numbers say what is told
 one-told : (r s : Told) → r .number ≡ s .number → r .value ≡ s .value → r ≡ s
@@ -58,6 +72,22 @@ kw-row-unique κs a x y s t p q = one-told x y (p .0 ∙ sym (q .0)) (p .1 ∙ s
 
 pub kw-back-unique : Unique 1 back-call.ps back-call.r back-promise.Post
 kw-back-unique κs a x y s t p q = one-told x y (p .0 ∙ sym (q .0)) (p .1 ∙ sym (q .1))
+
+-- a file's numbers
+pub kw-file-check-unique : Unique 1 file-check-call.ps file-check-call.r file-check-promise.Post
+kw-file-check-unique κs a x y s t p q = p ∙ sym q
+
+pub kw-file-entries-unique : Unique 1 file-entries-call.ps file-entries-call.r file-entries-promise.Post
+kw-file-entries-unique κs a x y s t p q = p ∙ sym q
+
+pub kw-file-columns-unique : Unique 1 file-columns-call.ps file-columns-call.r file-columns-promise.Post
+kw-file-columns-unique κs a x y s t p q = p ∙ sym q
+
+pub kw-file-rows-unique : Unique 1 file-rows-call.ps file-rows-call.r file-rows-promise.Post
+kw-file-rows-unique κs a x y s t p q = p ∙ sym q
+
+pub kw-file-note-unique : Unique 1 file-note-call.ps file-note-call.r file-note-promise.Post
+kw-file-note-unique κs a x y s t p q = p ∙ sym q
 
 -- those that write
 module _ (κs : Lfts 3) (a : Dens κs read-call.ps) (s t : AtExit (endedOf 3 read-call.ps read-call.r) κs) where
@@ -89,3 +119,13 @@ module _ (κs : Lfts 3) (a : Dens κs move-call.ps) (s t : AtExit (endedOf 3 mov
   pub kw-move-unique : (x y : Told) → move-promise.Post κs a x s → move-promise.Post κs a y t
       → (x ≡ y) × (now (s .1 .1 .1 .0) ≡ now (t .1 .1 .1 .0))
   kw-move-unique x y p q = (one-told x y (p .0 .0 ∙ sym (q .0 .0)) (p .0 .1 ∙ sym (q .0 .1)), p .1 ∙ sym (q .1))
+
+module _ (κs : Lfts 2) (a : Dens κs load-call.ps) (s t : AtExit (endedOf 2 load-call.ps load-call.r) κs) where
+  pub kw-load-unique : (x y : Told) → load-promise.Post κs a x s → load-promise.Post κs a y t
+      → (x ≡ y) × (now (s .1 .0) ≡ now (t .1 .0))
+  kw-load-unique x y p q = (one-told x y (p .0 .0 ∙ sym (q .0 .0)) (p .0 .1 ∙ sym (q .0 .1)), p .1 ∙ sym (q .1))
+
+module _ (κs : Lfts 2) (a : Dens κs save-call.ps) (s t : AtExit (endedOf 2 save-call.ps save-call.r) κs) where
+  pub kw-save-unique : (x y : Told) → save-promise.Post κs a x s → save-promise.Post κs a y t
+      → (x ≡ y) × (now (s .1 .1 .1 .1 .0) ≡ now (t .1 .1 .1 .1 .0))
+  kw-save-unique x y p q = (one-told x y (p .0 .0 ∙ sym (q .0 .0)) (p .0 .1 ∙ sym (q .0 .1)), p .1 ∙ sym (q .1))

@@ -24,6 +24,18 @@ ghost use Rattle.model.specs.Calls.{
   moveAnswer,
   moveSlice,
 };
+ghost use Rattle.words.specs.Answer.{numberOf};
+ghost use Rattle.format.specs.File.{
+  fileAnswer,
+  entriesIn,
+  columnsIn,
+  rowsIn,
+  noteIn,
+  loadAnswer,
+  loadSlice,
+  saveAnswer,
+  saveSlice,
+};
 ghost use Rattle.told.specs.Told.{Tells, TellsShift, TellsBack, TellsPart};
 
 #[no_mangle]
@@ -148,4 +160,60 @@ pub extern "C" fn kw_move(
         Tells r (moveAnswer c K mx X my Y) × (now (x .exit) ≡ moveSlice c K mx X my Y)) ⌝ }
 {
     tell(pass::move_past(c, keys, mx, x, my, y))
+}
+
+// The refusal's number of a file, 0 where it is accepted.
+#[no_mangle]
+pub extern "C" fn kw_file_check(file: &[u8]) -> u64
+    ensures { λ r. ⌜ r ≡ numberOf (fileAnswer (now (file .entry))) ⌝ }
+{
+    probe::check(file).number()
+}
+
+// The entries, columns and base rows of an accepted file's layer; 0 of a refused one.
+#[no_mangle]
+pub extern "C" fn kw_file_entries(file: &[u8]) -> u64
+    ensures { λ r. ⌜ r ≡ entriesIn (now (file .entry)) ⌝ }
+{
+    file::entries(file)
+}
+
+#[no_mangle]
+pub extern "C" fn kw_file_columns(file: &[u8]) -> u64
+    ensures { λ r. ⌜ r ≡ columnsIn (now (file .entry)) ⌝ }
+{
+    file::columns(file)
+}
+
+#[no_mangle]
+pub extern "C" fn kw_file_rows(file: &[u8]) -> u64
+    ensures { λ r. ⌜ r ≡ rowsIn (now (file .entry)) ⌝ }
+{
+    file::rows(file)
+}
+
+// Where the note of an accepted file ends; 0 of a refused one.
+#[no_mangle]
+pub extern "C" fn kw_file_note(file: &[u8]) -> usize
+    ensures { λ r. ⌜ r ≡ noteIn (now (file .entry)) ⌝ }
+{
+    file::note(file)
+}
+
+// Reads a file's layer into the front of a slice.
+#[no_mangle]
+pub extern "C" fn kw_load(file: &[u8], layer: &mut [u64]) -> Told
+    ensures { λ r. ⌜ (let F = now (file .entry) in let O = now (layer .entry) in
+        Tells r (loadAnswer F (length O)) × (now (layer .exit) ≡ loadSlice F O)) ⌝ }
+{
+    tell(file::load(file, layer))
+}
+
+// Writes a layer's file to the front of the bytes.
+#[no_mangle]
+pub extern "C" fn kw_save(c: usize, n: usize, m: usize, layer: &[u64], file: &mut [u8]) -> Told
+    ensures { λ r. ⌜ (let L = now (layer .entry) in let O = now (file .entry) in
+        Tells r (saveAnswer c n m L (length O)) × (now (file .exit) ≡ saveSlice c n m L O)) ⌝ }
+{
+    tell(save::save(c, n, m, layer, file))
 }

@@ -36,7 +36,7 @@ use Rattle.theory.proofs.Layer.{struck-none}
 use Rattle.theory.proofs.Position.{follows-pos as not-below}
 use Rattle.theory.proofs.Edits.{before-of, before-rises, before-trans}
 use Rattle.suit.specs.Suit.{first, struckAhead, underAhead, suitsAhead, risesKind, fitFrom}
-use Rattle.form.proofs.ByKind.{editBy, one-kind}
+use Rattle.scan.proofs.ByKind.{editBy, one-kind}
 use Rattle.form.proofs.Formed.{Formed, past-strike}
 
 -- positions never fall

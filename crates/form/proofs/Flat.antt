@@ -16,8 +16,8 @@ use Rattle.words.specs.declared.Entry.{Entry}
 use Rattle.model.specs.Raw.{entryAt, entriesAt, editOf, numbersOf}
 use Rattle.words.specs.Entry.{ADD, STRIKE}
 use Rattle.model.specs.Form.{zeros}
-use Rattle.form.proofs.ByKind.{editBy}
-use Rattle.form.proofs.Laws.{vals-length}
+use Rattle.scan.proofs.ByKind.{editBy}
+use Rattle.scan.proofs.Laws.{vals-length}
 
 all-zero : (vs : List ℕ) → all (λ v. eqb v 0) vs ≡ true → vs ≡ replicate (length vs) 0
 all-zero [] h = refl

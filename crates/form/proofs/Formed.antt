@@ -4,10 +4,11 @@ use Prim.Native.Nat.{ℕ, suc, _+_, _-_, _≤_, _<_}
 use native.Mathlib.Nat.{zero-add}
 use native.Mathlib.Omega.{arith}
 use mathlib.Core.Path.{_≡_, refl, sym, ap, _∙_}
-use mathlib.Core.Bool.{Bool, true, false, _&&_}
+use mathlib.Core.Bool.{Bool, true, false, cond, _&&_}
 use mathlib.Core.List.{List, [], _∷_, map, List·Memᴰ as Mem, List·Memᴰ·head as here, List·Memᴰ·tail as next}
 use lib.ListN.{length}
-use borrow.Author.Tests.{lt-ltb, le-ltb, ltb-true}
+use lib.Dec.{ltb}
+use borrow.Author.Tests.{lt-ltb, le-ltb, ltb-true, ltb-false}
 use Rattle.order.specs.Lists.{one, count}
 use Rattle.order.proofs.Tests.{and-l, and-r}
 use Rattle.order.proofs.Members.{map-mem}
@@ -22,10 +23,10 @@ use Rattle.model.specs.Form.{zeros, sound, follows, formPlace, argsOk}
 use Rattle.model.specs.Refusals.{breaksForm}
 use Rattle.words.specs.Answer.{refusal}
 use Rattle.model.specs.Calls.{formAnswer}
-use Rattle.theory.proofs.Raw.{entries-length, layer-length, args-held}
+use Rattle.theory.proofs.Raw.{entries-length, form-place, args-held}
 use Rattle.theory.proofs.Position.{follows-strike}
-use Rattle.form.specs.Scan.{good, ofKind}
-use Rattle.form.proofs.ByKind.{add-kind, strike-kind}
+use Rattle.scan.specs.Scan.{good, ofKind, Judged, judgement}
+use Rattle.scan.proofs.ByKind.{add-kind, strike-kind}
 use Rattle.form.proofs.Place.{place, all-good}
 
 -- no edit at fault: each is sound, and any two follow one another
@@ -93,7 +94,6 @@ args-refused c n m xs h = rw h
 
 -- no entry is at fault, and a of the edits are adds, s strikes: what is left is the row total
 pub record Counted (c n m : ℕ) (xs : List ℕ) (a s : ℕ) : Type 0 where
-  pub few-adds : a ≤ 512
   pub few-strikes : s ≤ n
   pub base : n ≤ 4096
   pub total : 4096 + s < n + a → Refused (refusal 2 m) ≡ formAnswer c n m xs
@@ -101,7 +101,7 @@ pub record Counted (c n m : ℕ) (xs : List ℕ) (a s : ℕ) : Type 0 where
 
 module _ (c n m : ℕ) (xs : List ℕ) (ok : argsOk c n m (length xs) ≡ true) where
   -- refusal 2, at the first entry at fault
-  pub place-refused : (p : ℕ) → p ≡ length (good c n (entriesOf c m xs)) → p < m
+  place-refused : (p : ℕ) → p ≡ length (good c n (entriesOf c m xs)) → p < m
       → Refused (refusal 2 p) ≡ formAnswer c n m xs
   unfolding formAnswer breaksForm
   place-refused p e h = rw (ok, ← place c n (entriesOf c m xs), ← e, lt-ltb p m h, zero-add)
@@ -144,12 +144,31 @@ module _ (c n m : ℕ) (xs : List ℕ) (ok : argsOk c n m (length xs) ≡ true) 
         rw (ok, placed, le-ltb m m (omega arith), le-ltb 4096 (rowsAfter n (layerOf c m xs)) t, adds, strikes)
 
     pub counted : Counted c n m xs a s
-    counted = record {
-      few-adds =
-          let h = args-held c n m xs ok .0 in
-          omega (arith, adds, count-le isAdd (layerOf c m xs), layer-length c m xs, h .entries);
-      few-strikes = few;
+    counted = record { few-strikes = few; base = args-held c n m xs ok .1; total = total; accept = accept }
+
+  -- what the pass found, judged
+  module _ (p a s : ℕ) (seen : (p ≡ length (good c n (entriesOf c m xs)))
+      × (a ≡ count (ofKind ADD) (good c n (entriesOf c m xs)))
+      × (s ≡ count (ofKind STRIKE) (good c n (entriesOf c m xs)))) where
+    held : m ≤ 512
+    held = args-held c n m xs ok .0 .entries
+
+    passed : length (good c n (entriesOf c m xs)) ≤ m
+    passed = omega (arith, place c n (entriesOf c m xs), form-place c n m xs)
+
+    pub judged : Judged n m p a s
+    judged = record {
       base = args-held c n m xs ok .1;
-      total = total;
-      accept = accept;
+      few-adds = omega (arith, seen .1, count-le (ofKind ADD) (good c n (entriesOf c m xs)), held, passed);
+      few-strikes = omega (arith, seen .2, count-le (ofKind STRIKE) (good c n (entriesOf c m xs)), held, passed);
+      struck = λ h. counted p a s h seen .few-strikes;
     }
+
+    pub judges : judgement n m p a s ≡ formAnswer c n m xs
+    judges = by (ltb p m) refl (ltb (4096 + s) (n + a)) refl
+      where
+        by : (t : Bool) → ltb p m ≡ t → (u : Bool) → ltb (4096 + s) (n + a) ≡ u
+            → cond t (Refused (refusal 2 p)) (cond u (Refused (refusal 2 m)) (Done ((n + a) - s))) ≡ formAnswer c n m xs
+        by true e u f = place-refused p (seen .0) (ltb-true p m e)
+        by false e true f = counted p a s (ltb-false p m e) seen .total (ltb-true (4096 + s) (n + a) f)
+        by false e false f = counted p a s (ltb-false p m e) seen .accept (ltb-false (4096 + s) (n + a) f)

@@ -1,6 +1,3 @@
-pub mod ByKind
-pub mod Laws
-pub mod Scanning
 pub mod Place
 pub mod Formed
 pub mod Flat

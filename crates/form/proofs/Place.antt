@@ -14,8 +14,8 @@ use Rattle.words.specs.declared.Entry.{Entry}
 use Rattle.model.specs.Raw.{editOf}
 use Rattle.words.specs.Entry.{ADD}
 use Rattle.model.specs.Form.{zeros, sound, follows, formPlace}
-use Rattle.form.specs.Scan.{aloneGood, goodAfter, goodFrom, good}
-use Rattle.form.proofs.ByKind.{follows-kind, follows-trans}
+use Rattle.scan.specs.Scan.{aloneGood, goodAfter, goodFrom, good}
+use Rattle.scan.proofs.ByKind.{follows-kind, follows-trans}
 
 step : (t : Bool) {u : Bool} (e : Entry) (es : List Entry) {k : ℕ} → t ≡ u → length es ≡ k
     → length (cond t (e ∷ es) []) ≡ cond u (suc k) 0

@@ -1,2 +1,1 @@
 pub mod InForm
-pub mod Scan

@@ -18,7 +18,7 @@ use Rattle.model.specs.Raw.{deedOf, editOf}
 use Rattle.words.specs.Entry.{ADD, STRIKE}
 use Rattle.model.specs.Meaning.{keyOf}
 use Rattle.head.specs.Head.{headOf}
-use Rattle.form.proofs.ByKind.{editBy}
+use Rattle.scan.proofs.ByKind.{editBy}
 use Rattle.woven.specs.declared.Meets.the-variants.{Lower, UpperHere, Drop, Vanish, Patch, Fuse}
 use Rattle.woven.specs.Woven.{meet, meetKinds}
 use Rattle.meet.specs.Meet.{keyIn, Keyed}

@@ -24,7 +24,7 @@ use Rattle.words.specs.Answer.{refusal}
 use Rattle.model.specs.Calls.{formRows, formAnswer, shiftAnswer, rowAnswer, backAnswer, originAnswer}
 use Rattle.theory.proofs.Stages.{onward}
 use Rattle.theory.proofs.Position.{row-never-negative}
-use Rattle.form.specs.Scan.{goodFrom}
+use Rattle.scan.specs.Scan.{goodFrom}
 use Rattle.form.proofs.Formed.{counted}
 use Rattle.form.proofs.Accepted.{accepted}
 use Rattle.form.proofs.Answers.{after-form, own-argument, after-own}

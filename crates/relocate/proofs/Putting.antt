@@ -16,7 +16,7 @@ use Rattle.model.specs.Move.{moved, move}
 use Rattle.entry.specs.declared.Cursor.{Cursor}
 use Rattle.entry.specs.Look.{first, after, Placed}
 use Rattle.entry.proofs.Looks.{entries-step, left-end, after-placed}
-use Rattle.form.proofs.Laws.{vals-length}
+use Rattle.scan.proofs.Laws.{vals-length}
 use Rattle.form.proofs.Flat.{entry-numbers}
 use Rattle.walk.specs.Walk.{Positions}
 use Rattle.walk.proofs.Marks.{entry-here, entry-room}

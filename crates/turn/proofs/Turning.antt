@@ -19,7 +19,7 @@ use Rattle.head.specs.declared.Head.{Head}
 use Rattle.head.specs.Head.{headOf}
 use Rattle.entry.proofs.Looks.{left-step, left-end, room-here}
 use Rattle.form.proofs.Accepted.{Accepted, accepted}
-use Rattle.form.proofs.ByKind.{add-kind, strike-kind}
+use Rattle.scan.proofs.ByKind.{add-kind, strike-kind}
 use Rattle.woven.specs.declared.Meets.{Meets}
 use Rattle.woven.specs.declared.Meets.the-variants.{Lower, Patch}
 use Rattle.woven.specs.Woven.{meet, meetKinds, stepOf, changesAhead}

@@ -10,7 +10,7 @@ use lib.Seq.{take-at, drop-at, take-take, drop-drop, drop-cons}
 use borrow.Rule.Slice.PartMut.{putMid}
 use Rattle.order.proofs.Splice.{part}
 use Rattle.run.proofs.Laws.{put-back}
-use Rattle.form.proofs.Laws.{vals-length}
+use Rattle.scan.proofs.Laws.{vals-length}
 use Rattle.weave.specs.Written.{Put}
 
 -- the numbers of an entry in its slice

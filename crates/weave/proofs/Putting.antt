@@ -19,9 +19,9 @@ use Rattle.theory.proofs.Raw.{small}
 use Rattle.theory.proofs.Edits.{set-over}
 use Rattle.entry.proofs.Looks.{entries-step, left-step, left-end, room-here}
 use Rattle.form.proofs.Accepted.{Accepted, accepted}
-use Rattle.form.proofs.ByKind.{add-kind, editBy}
+use Rattle.scan.proofs.ByKind.{add-kind, editBy}
 use Rattle.form.proofs.Flat.{entry-numbers}
-use Rattle.form.proofs.Laws.{vals-length}
+use Rattle.scan.proofs.Laws.{vals-length}
 use Rattle.woven.specs.Woven.{placed, patched, patchedAdd, fused}
 use Rattle.turn.specs.declared.Place.{Place}
 use Rattle.turn.specs.declared.Puts.{Puts}

@@ -1,14 +1,13 @@
--- `form::check` meets its contract: the pass finds the scope's place, and the row total is what it counted.
+-- `form::check` meets its contract: the arguments, then what the pass finds is judged.
 -- Assumes nothing.
-use borrow.Author.Needs.{needs}
 use borrow.Author.Tests.{not-true, not-false}
-use native.Mathlib.Omega.{arith}
 use mathlib.Core.Path.{_≡_, sym, _∙_}
 use mathlib.Core.Bool.{true}
 use lib.ListN.{length}
 use Rattle.model.specs.Form.{argsOk}
 use Rattle.theory.proofs.Raw.{args-held}
-use Rattle.form.proofs.Formed.{Counted, args-refused, place-refused, counted}
+use Rattle.form.proofs.Formed.{args-refused, judged, judges}
+use borrow.Author.Needs.{needs}
 use Rattle.form.proofs.check.Statement.{statement}
 use Rattle.form.proofs.check.Tie as tie
 
@@ -33,38 +32,12 @@ scan-layer-requires c κs =
     let a = c .before .before .before .args in
     args-held (a .c) (a .n) (a .m) (a .layer .now) (passed c) .0
 
-refused-requires-2 : tie.Need-refused-requires-2
-refused-requires-2 c κs = search needs
+judge-requires : tie.Need-judge-requires
+judge-requires c κs = judged _ _ _ _ (passed (c .before)) _ _ _ (c .scan-layer .ensures)
 
 returns-2 : tie.Need-returns-2
 returns-2 c =
-    let t = c .before in
-    c .refused2 .ensures
-    ∙ place-refused _ _ _ _ (passed (t .before .before)) _ (t .before .scan-layer .ensures .0) (t .if2 .taken)
-
-known : (c : tie.Else2) →
-    let a = c .before .before .before .before .before .args in
-    let s = c .before .scan-layer .result in
-    Counted (a .c) (a .n) (a .m) (a .layer .now) (s .adds) (s .strikes)
-known c = counted _ _ _ _ (passed (c .before .before)) _ _ _ (c .if2 .left) (c .before .scan-layer .ensures)
-
-add-shown : tie.Need-add-shown
-add-shown c = let k = known (c .before) in omega (arith, k .few-adds, k .base)
-
-add-most : tie.Need-add-most
-add-most c = let k = known (c .before .before) in omega (arith, k .few-strikes, k .base)
-
-refused-requires-3 : tie.Need-refused-requires-3
-refused-requires-3 c κs = search needs
-
-returns-3 : tie.Need-returns-3
-returns-3 c = let t = c .before in c .refused3 .ensures ∙ known (t .before .before .before) .total (t .if3 .taken)
-
-sub-t10 : tie.Need-sub-t10
-sub-t10 c = let k = known (c .before .before .before .before) in omega (arith, k .few-strikes)
-
-returns-4 : tie.Need-returns-4
-returns-4 c = known (c .before .before .before .before) .accept (c .before .if3 .left)
+    c .judge .ensures ∙ judges _ _ _ _ (passed (c .before .before)) _ _ _ (c .before .scan-layer .ensures)
 
 pub check-spec : {M : Type 1} → statement M
 check-spec =
@@ -74,11 +47,5 @@ check-spec =
     refused-requires
     returns
     scan-layer-requires
-    refused-requires-2
-    returns-2
-    add-shown
-    add-most
-    refused-requires-3
-    returns-3
-    sub-t10
-    returns-4)
+    judge-requires
+    returns-2)

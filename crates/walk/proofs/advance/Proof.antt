@@ -14,7 +14,7 @@ use Rattle.head.specs.declared.Head.{Head}
 use Rattle.head.specs.Head.{seen}
 use Rattle.head.proofs.Heads.{head-before}
 use Rattle.entry.proofs.Looks.{Here, near}
-use Rattle.form.proofs.ByKind.{add-kind, strike-kind}
+use Rattle.scan.proofs.ByKind.{add-kind, strike-kind}
 use Rattle.walk.specs.declared.Mark.{Mark}
 use Rattle.walk.specs.Walk.{Marks, Early}
 use Rattle.walk.proofs.Marks.{entry-here, entry-room, few, marks-past, early-next, parted-stop, parted-end}

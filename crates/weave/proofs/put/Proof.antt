@@ -10,7 +10,7 @@ use borrow.Rule.Slice.PartMut.{putMid}
 use Rattle.model.specs.Layer.{Layer}
 use Rattle.words.specs.declared.Entry.{Entry}
 use Rattle.model.specs.Raw.{entryAt, layerOf, flat}
-use Rattle.form.proofs.Laws.{vals-length}
+use Rattle.scan.proofs.Laws.{vals-length}
 use Rattle.turn.specs.declared.Puts.{Puts}
 use Rattle.turn.specs.declared.Puts.the-variants.{Nothing, AsItIs, UpperAt, Changed, Fused}
 use Rattle.turn.specs.Turn.{left}

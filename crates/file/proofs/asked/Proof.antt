@@ -1,0 +1,48 @@
+-- `file::asked` meets its contract: the number, where the check is done.
+-- Assumes nothing.
+use native.Mathlib.Omega.{arith}
+use mathlib.Core.Path.{_≡_, sym, _∙_}
+use Rattle.words.specs.declared.Answer.the-variants.{Done}
+use Rattle.format.specs.File.{fileAnswer}
+use Rattle.probe.proofs.Answers.{kept, when-done, when-refused}
+use borrow.Author.Needs.{needs}
+use Rattle.file.proofs.asked.Statement.{statement}
+use Rattle.file.proofs.asked.Tie as tie
+
+check-requires : tie.Need-check-requires
+check-requires c κs = search needs
+
+enum-known-x : tie.Need-enum-known-x
+enum-known-x c = search needs
+
+enum-told : tie.Need-enum-told
+enum-told c = search needs
+
+-- the check is done
+accepted : (c : tie.After-enum-told) →
+    fileAnswer (c .before .before .before .before .args .file .now) ≡ Done (c .enum-told .given .0 .0)
+accepted c = sym (c .before .before .check .ensures) ∙ c .enum-told .given .1
+
+sub-number-at : tie.Need-sub-number-at
+sub-number-at c = omega (arith, kept _ _ (accepted c) .long)
+
+number-at-requires : tie.Need-number-at-requires
+number-at-requires c κs = omega (arith, kept _ _ (accepted c) .long)
+
+returns : tie.Need-returns
+returns c = when-refused _ (sym (c .before .before .before .check .ensures) ∙ c .before .x .given .1)
+
+returns-2 : tie.Need-returns-2
+returns-2 c = c .number-at .ensures ∙ when-done _ (accepted (c .before))
+
+pub asked-spec : {M : Type 1} → statement M
+asked-spec =
+    tie.close
+    (tie.spec
+    check-requires
+    enum-known-x
+    enum-told
+    sub-number-at
+    number-at-requires
+    returns
+    returns-2)

@@ -1,0 +1,1 @@
+// A layer in a file as definitions, run on examples: no code.

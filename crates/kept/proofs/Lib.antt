@@ -1,0 +1,4 @@
+pub mod ReadBack
+pub mod Exactly
+pub mod Table
+pub mod Again
