@@ -17,8 +17,9 @@ use Rattle.io.specs.Counts.{clamped}
 use Rattle.text.specs.Text.{Wrote}
 use Rattle.text.proofs.Writing.{wrote-then}
 use Rattle.base.specs.Base.{sheetOf}
-use Rattle.feed.specs.declared.Feed.{Feed}
-use Rattle.feed.specs.Input.{Reading, begun, hushed, anew, readingOf, inputEnds, Took, Closed, Ready}
+use Rattle.intake.specs.declared.Feed.{Feed}
+use Rattle.intake.specs.Reading.{Reading, readingOf, Took}
+use Rattle.feed.specs.Input.{begun, hushed, anew, inputEnds, Closed, Ready}
 use Rattle.show.specs.Shown.{ending}
 use Rattle.console.specs.Told.{closing}
 use Rattle.blocks.specs.declared.Went.{Went}

@@ -11,7 +11,8 @@ use denote.Triple.Clauses.{AtExit}
 use borrow.Fn.Kinds.{Dens, endedOf}
 use Rattle.io.specs.Counts.{clamped}
 use Rattle.base.specs.Base.{Sheet}
-use Rattle.feed.specs.Input.{Reading, nothingRead, readingOf}
+use Rattle.intake.specs.Reading.{Reading, readingOf}
+use Rattle.feed.specs.Input.{nothingRead}
 use Rattle.console.specs.Told.{printed}
 use Rattle.console.specs.Run.{endToEnd, Run, next}
 use Rattle.console.proofs.Run.{run-printed}

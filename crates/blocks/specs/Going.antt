@@ -5,8 +5,9 @@ use Prim.Native.Nat.{ℕ, zero, suc}
 use lib.ListN.{take}
 use lib.IntN.{ℤ, pos, negsuc}
 use Rattle.io.specs.Counts.{clamped}
-use Rattle.feed.specs.declared.Feed.{Feed}
-use Rattle.feed.specs.Input.{Reading, hushed, anew, Took}
+use Rattle.intake.specs.declared.Feed.{Feed}
+use Rattle.intake.specs.Reading.{Reading, Took}
+use Rattle.feed.specs.Input.{hushed, anew}
 use Rattle.blocks.specs.declared.Went.{Went}
 use Rattle.blocks.specs.declared.Went.the-variants.{On, Over, Failed}
 

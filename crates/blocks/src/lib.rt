@@ -1,10 +1,11 @@
 // The input in blocks: the bytes of one taken as its read answered, and the end of the input with the table behind it.
-use feed::Feed;
+use intake::Feed;
 ghost use mathlib.Core.Path.{_≡_};
 ghost use lib.ListN.{take};
 ghost use Rattle.libc.specs.Io.{Moved};
 ghost use Rattle.text.specs.Text.{Wrote};
-ghost use Rattle.feed.specs.Input.{readingOf, hushed, Ready};
+ghost use Rattle.intake.specs.Reading.{readingOf};
+ghost use Rattle.feed.specs.Input.{hushed, Ready};
 ghost use Rattle.console.specs.Told.{closing};
 ghost use Rattle.blocks.specs.Going.{wentBy, Block};
 

@@ -95,7 +95,7 @@ pub extern "C" fn kw_row(c: usize, n: usize, m: usize, layer: &[u64], s: usize) 
 pub extern "C" fn kw_back(c: usize, n: usize, m: usize, layer: &[u64], r: usize) -> Told
     ensures { λ o. ⌜ TellsBack o (backAnswer c n m (now (layer .entry)) r) ⌝ }
 {
-    told::tell_back(position::back(c, n, m, layer, r))
+    told::tell_back(back::back(c, n, m, layer, r))
 }
 
 #[no_mangle]

@@ -23,7 +23,7 @@ use Rattle.theory.proofs.Edits.{deedBy}
 use Rattle.entry.specs.declared.Cursor.{Cursor}
 use Rattle.entry.specs.Look.{first, after, Placed}
 use Rattle.entry.proofs.Looks.{Here, left-step, left-end, room-here, after-placed}
-use Rattle.column.specs.Runs.{runsFrom, Wrote, Ready, Readable}
+use Rattle.column.specs.Runs.{runsFrom, Pasted, Ready, Readable}
 use Rattle.column.proofs.Writing.{Front, room, front-more, front-end}
 use Rattle.column.proofs.Same.{same}
 use Rattle.column.proofs.Rows.{rows-shown}
@@ -61,7 +61,7 @@ module _ {c m : ℕ} {raw xs : List ℕ} {j : ℕ} {out₀ out : List ℕ} {k : 
   pub near : Held c m raw → k .at + (c + 2) ≤ length raw
   near H = omega (arith, g .placed, room-here c m (k .i) raw H h)
 
-  pub passed : {ys new : List ℕ} {t r : ℕ} → Shows c m raw xs j out₀ out k o ys t → Wrote ys out o r new
+  pub passed : {ys new : List ℕ} {t r : ℕ} → Shows c m raw xs j out₀ out k o ys t → Pasted ys out o r new
       → Going c m raw xs j out₀ new (after c k) t r
   passed {ys} {new} {t} {r} w q = record {
     fits = g .fits;
@@ -158,7 +158,7 @@ module _ {c m : ℕ} {raw xs : List ℕ} {j : ℕ} {out₀ out : List ℕ} {k : 
       let f = last-front in
       room _ out (slice s (length xs) xs) [] o (f .split) (omega (arith, g .fits, f .size)) (f .done)
 
-  pub ended : {r : ℕ} {new : List ℕ} → Readable c m raw xs j (length out₀) → Wrote (slice s (length xs) xs) out o r new
+  pub ended : {r : ℕ} {new : List ℕ} → Readable c m raw xs j (length out₀) → Pasted (slice s (length xs) xs) out o r new
       → let t = readColumn j xs (layerOf c m raw) in
       (length new ≡ length out₀) × (r ≡ length t) × (new ≡ t ++ drop (length t) out₀)
   ended {r} {new} a w =

@@ -21,7 +21,7 @@ use lib.Seq.{
   slice,
 }
 use Rattle.run.proofs.Laws.{copy-more}
-use Rattle.column.specs.Runs.{Wrote}
+use Rattle.column.specs.Runs.{Pasted}
 
 -- the part from s up to p, the two ways to say it
 pub part-slice : (s p : ℕ) (xs : List ℕ) → take (p - s) (drop s xs) ≡ slice s p xs
@@ -30,13 +30,13 @@ part-slice (suc s) zero xs = rw zero-sub
 part-slice (suc s) (suc p) [] = take-nil (suc p - suc s)
 part-slice (suc s) (suc p) (x ∷ xs) = rw suc-sub-suc (part-slice s p xs)
 
-pub wrote-none : (d : List ℕ) (o : ℕ) → Wrote [] d o o d
-wrote-none d o = record { end = omega arith; numbers = paste-zero d o [] }
+pub pasted-none : (d : List ℕ) (o : ℕ) → Pasted [] d o o d
+pasted-none d o = record { end = omega arith; numbers = paste-zero d o [] }
 
 -- one number more
-pub wrote-one : (ys d new : List ℕ) (o r v : ℕ) → Wrote ys d o r new → o + length ys < length d
-    → Wrote (ys ++ (v ∷ [])) d o (r + 1) (set new r v)
-wrote-one ys d new o r v w h =
+pub pasted-one : (ys d new : List ℕ) (o r v : ℕ) → Pasted ys d o r new → o + length ys < length d
+    → Pasted (ys ++ (v ∷ [])) d o (r + 1) (set new r v)
+pasted-one ys d new o r v w h =
     let zs = ys ++ (v ∷ []) in
     let l : length zs ≡ length ys + 1 = length-append ys (v ∷ []) in
     let q : paste d o ys (length ys) ≡ paste d o zs (length ys) =
@@ -63,7 +63,7 @@ pub record Front (t d₀ : List ℕ) (o : ℕ) (d rest : List ℕ) : Type 0 wher
   pub split : t ≡ take o d ++ rest
 
 pub front-more : (t d₀ d new ys rest : List ℕ) (o r : ℕ) → length t ≤ length d₀ → Front t d₀ o d (ys ++ rest)
-    → Wrote ys d o r new → Front t d₀ r new rest
+    → Pasted ys d o r new → Front t d₀ r new rest
 front-more t d₀ d new ys rest o r f g w =
     let h : o + length ys ≤ length d = room t d ys rest o (g .split) (omega (arith, g .size)) (g .done) in
     let l = length-paste d o ys (length ys) h (omega arith) in

@@ -19,8 +19,8 @@ runsFrom j s xs (at p (strike k) ∷ L) = slice s p xs ++ runsFrom j (suc p) xs 
 runsFrom j s xs (at p (change i e) ∷ L) =
     cond (eqb j i) (slice s p xs ++ (done e (getD xs p 0) ∷ runsFrom j (suc p) xs L)) (runsFrom j s xs L)
 
--- the numbers ys were written to a buffer from index o on: r is the index after the last, and the rest is as it was
-pub record Wrote (ys : List ℕ) (old : List ℕ) (o r : ℕ) (new : List ℕ) : Type 0 where
+-- the numbers ys were pasted into a buffer from index o on: r is the index after the last, and the rest is as it was
+pub record Pasted (ys : List ℕ) (old : List ℕ) (o r : ℕ) (new : List ℕ) : Type 0 where
   pub end : r ≡ o + length ys
   pub numbers : new ≡ paste old o ys (length ys)
 

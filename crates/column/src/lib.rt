@@ -7,12 +7,12 @@ ghost use Prim.Native.Nat.{_+_, _≤_, _<_};
 ghost use lib.ListN.{length, drop};
 ghost use lib.Seq.{slice};
 ghost use Rattle.model.specs.Calls.{shownColumn};
-ghost use Rattle.column.specs.Runs.{Wrote, Readable};
+ghost use Rattle.column.specs.Runs.{Pasted, Readable};
 
 // Shows the base rows from s up to p: writes them to the buffer from o on, and returns the index after the last.
 fn show_rows(base: &[u64], s: usize, p: usize, out: &mut [u64], o: usize) -> usize
     requires { ⌜ (s ≤ p) × (p ≤ length (now base)) × (o + length (slice s p (now base)) ≤ length (now out)) ⌝ }
-    ensures { λ r. ⌜ Wrote (slice s p (now (base .entry))) (now (out .entry)) o r (now (out .exit)) ⌝ }
+    ensures { λ r. ⌜ Pasted (slice s p (now (base .entry))) (now (out .entry)) o r (now (out .exit)) ⌝ }
 {
     run::copy_in(&base[s..p], out, o)
 }
@@ -20,7 +20,7 @@ fn show_rows(base: &[u64], s: usize, p: usize, out: &mut [u64], o: usize) -> usi
 // Shows the base rows from s up to p and then the number v.
 fn show_rows_and(base: &[u64], s: usize, p: usize, v: u64, out: &mut [u64], o: usize) -> usize
     requires { ⌜ (s ≤ p) × (p ≤ length (now base)) × (o + length (slice s p (now base)) < length (now out)) ⌝ }
-    ensures { λ r. ⌜ Wrote (slice s p (now (base .entry)) ++ (v ∷ [])) (now (out .entry)) o r (now (out .exit)) ⌝ }
+    ensures { λ r. ⌜ Pasted (slice s p (now (base .entry)) ++ (v ∷ [])) (now (out .entry)) o r (now (out .exit)) ⌝ }
 {
     let end = show_rows(base, s, p, out, o);
     out[end] = v;

@@ -15,7 +15,8 @@ use Rattle.line.specs.Line.{fields, lineOf}
 use Rattle.decimal.specs.Decimal.{digitsWithin, digits, decimal}
 use Rattle.text.specs.Text.{message, rowText, tableText}
 use Rattle.hear.specs.Heard.{heard, after}
-use Rattle.feed.specs.Input.{nothingRead, bytesIn, inputEnds, linesFrom, linesOf}
+use Rattle.intake.specs.Reading.{bytesIn}
+use Rattle.feed.specs.Input.{nothingRead, inputEnds, linesFrom, linesOf}
 use Rattle.show.specs.Shown.{rowsOf, ending}
 use Rattle.console.specs.Told.{tableIn, closing, printed, zeros, exampleInput, exampleOutput}
 

@@ -15,7 +15,8 @@ use Rattle.base.specs.declared.Counts.{Counts}
 use Rattle.base.specs.Base.{Sheet}
 use Rattle.hear.specs.Heard.{heard, after}
 use Rattle.text.specs.Text.{message}
-use Rattle.feed.specs.Input.{Reading, mostKept, lineIn, byteKept, bytesIn, linesFrom, linesOf, linesIn, inputEnds}
+use Rattle.intake.specs.Reading.{Reading, mostKept, lineIn, byteKept, bytesIn}
+use Rattle.feed.specs.Input.{linesFrom, linesOf, linesIn, inputEnds}
 
 -- a reading with so many bytes of its line
 abbrev reading : Counts → Sheet → List ℕ → List ℕ → Reading

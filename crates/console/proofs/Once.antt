@@ -6,17 +6,18 @@ use mathlib.Core.Path.{_≡_, sym, ap, _∙_}
 use mathlib.Core.List.{List, [], _++_}
 use Prim.Native.Nat.{ℕ, _≤_}
 use native.Mathlib.Omega.{arith}
+use native.Mathlib.Nat.{zero-add}
 use lib.ListN.{length, take, drop, length-drop, take-append-drop}
-use lib.Seq.{take-all, drop-drop, length-take-le}
+use lib.Seq.{take-all, take-length, drop-drop, length-take-le}
 use contract.Lifetimes.{Lfts}
 use denote.Ref.{now}
 use denote.Triple.Clauses.{AtExit}
 use borrow.Fn.Kinds.{Dens, endedOf}
 use Rattle.base.specs.declared.Reply.{Reply}
-use Rattle.feed.specs.declared.Feed.{Feed}
-use Rattle.text.specs.Text.{Wrote}
+use Rattle.intake.specs.declared.Feed.{Feed}
+use Rattle.text.specs.Text.{Wrote, textRoom}
 use Rattle.base.specs.Base.{Sheet, mostBase, columnOf, sheetOf}
-use Rattle.feed.specs.Input.{Reading, mostKept, readingOf}
+use Rattle.intake.specs.Reading.{Reading, mostKept, readingOf, Spacious}
 use Rattle.text.proofs.put_bytes.Kinds as bytes-kinds
 use Rattle.text.proofs.put_bytes.Reads as bytes-contract
 use Rattle.text.proofs.say.Kinds as say-kinds
@@ -27,6 +28,10 @@ use Rattle.base.proofs.base_row.Kinds as base-kinds
 use Rattle.base.proofs.base_row.Reads as base-contract
 use Rattle.hear.proofs.hear.Kinds as hear-kinds
 use Rattle.hear.proofs.hear.Reads as hear-contract
+use Rattle.intake.proofs.take_byte.Kinds as byte-kinds
+use Rattle.intake.proofs.take_byte.Reads as byte-contract
+use Rattle.intake.proofs.end_line.Kinds as line-kinds
+use Rattle.intake.proofs.end_line.Reads as line-contract
 use Rattle.feed.proofs.take_block.Kinds as block-kinds
 use Rattle.feed.proofs.take_block.Reads as block-contract
 use Rattle.feed.proofs.end_input.Kinds as end-kinds
@@ -37,6 +42,15 @@ use Rattle.show.proofs.finish.Reads as finish-contract
 -- bytes written
 wrote-once : {ys old new new′ : List ℕ} {o r r′ : ℕ} → Wrote ys old o r new → Wrote ys old o r′ new′ → (r ≡ r′) × (new ≡ new′)
 wrote-once a b = (a .end ∙ sym (b .end), a .bytes ∙ sym (b .bytes))
+
+-- what stands in front in a buffer is written there
+wrote-front : (out : List ℕ) (o : ℕ) → o ≤ length out → Wrote (take o out) out 0 o out
+wrote-front out o h =
+    let n = length-take-le o out h in
+    record {
+      end = omega (arith, n);
+      bytes = rw (take-length (take o out), n, zero-add o) (sym (take-append-drop o out));
+    }
 
 -- a table of 1,536 numbers and a layer are known by their sheet
 three-parts : (t : List ℕ) → length t ≡ 1536 → columnOf 0 t ++ (columnOf 1 t ++ columnOf 2 t) ≡ t
@@ -143,7 +157,57 @@ module _ (κs : Lfts 3) (a : Dens κs hear-kinds.ps) (s s′ : AtExit (endedOf 3
       let w = sheet-once (heardTable s) (heardTable s′) (heardLayer s) (heardLayer s′) h i (p .sheet ∙ sym (q .sheet)) in
       (p .reply ∙ sym (q .reply), w .0, w .1)
 
--- `feed`: where the reading stands, the table and the layer, the line that has begun and the text
+-- `intake`, called as it demands: where the reading stands, the table and the layer, the line that has begun and the text
+module _ (κs : Lfts 4) (a : Dens κs byte-kinds.ps) (s s′ : AtExit (endedOf 4 byte-kinds.ps byte-kinds.r) κs) where
+  abbrev byteTable : AtExit (endedOf 4 byte-kinds.ps byte-kinds.r) κs → List ℕ
+  byteTable t = now (t .1 .1 .0)
+
+  abbrev byteLayer : AtExit (endedOf 4 byte-kinds.ps byte-kinds.r) κs → List ℕ
+  byteLayer t = now (t .1 .1 .1 .0)
+
+  abbrev byteLine : AtExit (endedOf 4 byte-kinds.ps byte-kinds.r) κs → List ℕ
+  byteLine t = now (t .1 .1 .1 .1 .0)
+
+  abbrev byteText : AtExit (endedOf 4 byte-kinds.ps byte-kinds.r) κs → List ℕ
+  byteText t = now (t .1 .1 .1 .1 .1 .0)
+
+  abbrev byteSaid : List ℕ
+  byteSaid = now (a .1 .1 .1 .1 .1 .0)
+
+  pub take-byte-unique : (r r′ : Feed) → Arrays (byteTable s) (byteLine s) → Arrays (byteTable s′) (byteLine s′) →
+      length byteSaid ≡ textRoom → Spacious 1 (a .0) → byte-contract.Post κs a r s → byte-contract.Post κs a r′ s′ →
+      SameFeed r r′ (byteTable s) (byteTable s′) (byteLayer s) (byteLayer s′) (byteLine s) (byteLine s′) (byteText s) (byteText s′)
+  take-byte-unique r r′ h h′ l v p q =
+      let w = wrote-front byteSaid (a .0 .at) (omega (arith, l, v .inText)) in
+      reading-once {f = r} {g = r′} {t = byteTable s} {u = byteTable s′} {K = byteLayer s} {L = byteLayer s′} {line = byteLine s}
+      {line′ = byteLine s′} h h′ (p .0 .short) (q .0 .short) (p .0 .same ∙ sym (q .0 .same)) (p .1 byteSaid w) (q .1 byteSaid w)
+
+module _ (κs : Lfts 4) (a : Dens κs line-kinds.ps) (s s′ : AtExit (endedOf 4 line-kinds.ps line-kinds.r) κs) where
+  abbrev lineTable : AtExit (endedOf 4 line-kinds.ps line-kinds.r) κs → List ℕ
+  lineTable t = now (t .1 .0)
+
+  abbrev lineLayer : AtExit (endedOf 4 line-kinds.ps line-kinds.r) κs → List ℕ
+  lineLayer t = now (t .1 .1 .0)
+
+  abbrev lineText : AtExit (endedOf 4 line-kinds.ps line-kinds.r) κs → List ℕ
+  lineText t = now (t .1 .1 .1 .1 .0)
+
+  abbrev lineBegun : List ℕ
+  lineBegun = now (a .1 .1 .1 .0)
+
+  abbrev lineSaid : List ℕ
+  lineSaid = now (a .1 .1 .1 .1 .0)
+
+  pub end-line-unique : (r r′ : Feed) → Arrays (lineTable s) lineBegun → Arrays (lineTable s′) lineBegun →
+      length lineSaid ≡ textRoom → Spacious 1 (a .0) → line-contract.Post κs a r s → line-contract.Post κs a r′ s′ →
+      SameFeed r r′ (lineTable s) (lineTable s′) (lineLayer s) (lineLayer s′) lineBegun lineBegun (lineText s) (lineText s′)
+  end-line-unique r r′ h h′ l v p q =
+      let w = wrote-front lineSaid (a .0 .at) (omega (arith, l, v .inText)) in
+      reading-once {f = r} {g = r′} {t = lineTable s} {u = lineTable s′} {K = lineLayer s} {L = lineLayer s′} {line = lineBegun}
+      {line′ = lineBegun} h h′ (omega (arith, p .0 .short)) (omega (arith, q .0 .short)) (p .0 .same ∙ sym (q .0 .same))
+      (p .1 lineSaid w) (q .1 lineSaid w)
+
+-- `feed`: the same of a text that starts anew
 module _ (κs : Lfts 5) (a : Dens κs block-kinds.ps) (s s′ : AtExit (endedOf 5 block-kinds.ps block-kinds.r) κs) where
   abbrev table : AtExit (endedOf 5 block-kinds.ps block-kinds.r) κs → List ℕ
   table t = now (t .1 .1 .0)

@@ -12,7 +12,8 @@ use Rattle.base.specs.Base.{Sheet}
 use Rattle.text.specs.Text.{Wrote, message}
 use Rattle.text.proofs.Writing.{wrote-before}
 use Rattle.show.specs.Shown.{ending}
-use Rattle.feed.specs.Input.{Reading, nothingRead, begun, hushed, lineIn, byteKept, byteIn, bytesIn, readingOf, lastIn, inputEnds, Took}
+use Rattle.intake.specs.Reading.{Reading, lineIn, byteKept, byteIn, bytesIn, readingOf, Took}
+use Rattle.feed.specs.Input.{nothingRead, begun, hushed, lastIn, inputEnds}
 use Rattle.feed.proofs.Feeding.{bytes-then}
 use Rattle.console.specs.Told.{closing, printed, zeros}
 use Rattle.console.specs.Run.{endToEnd, Run, none, next}

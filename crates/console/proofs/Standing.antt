@@ -35,8 +35,10 @@ use Rattle.line.specs.Line.{lineOf}
 use Rattle.text.specs.declared.Said.the-variants.{Unread, Refused}
 use Rattle.base.specs.declared.Counts.{Counts}
 use Rattle.base.specs.Base.{Sheet, sheetOf, Roomy, mostBase, baseKeys, belowLast, shut, stay, grown, baseReply, baseTaken, withRow}
-use Rattle.hear.specs.Heard.{entered, heard, withLayer, after}
-use Rattle.feed.specs.Input.{Reading, atStart, nothingRead, lineIn, linesIn}
+use Rattle.reply.specs.Reply.{entered}
+use Rattle.hear.specs.Heard.{heard, withLayer, after}
+use Rattle.intake.specs.Reading.{Reading, lineIn}
+use Rattle.feed.specs.Input.{atStart, nothingRead, linesIn}
 use Rattle.show.specs.Shown.{baseTable}
 use Rattle.console.specs.Standing.{sheetLayer, Standing}
 use Rattle.show.proofs.Printed.{Columns, columns}

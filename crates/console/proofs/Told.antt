@@ -27,8 +27,10 @@ use Rattle.line.specs.Line.{lineOf}
 use Rattle.text.specs.declared.Said.the-variants.{Unread, Refused}
 use Rattle.base.specs.declared.Counts.{Counts}
 use Rattle.base.specs.Base.{Sheet, Roomy, mostBase, baseKeys, belowLast, shut, stay, grown, withRow}
-use Rattle.hear.specs.Heard.{entered, added, struck, changed, heard, withLayer, after}
-use Rattle.feed.specs.Input.{Reading, atStart, nothingRead, lineIn, linesIn, linesOf}
+use Rattle.reply.specs.Reply.{entered}
+use Rattle.hear.specs.Heard.{added, struck, changed, heard, withLayer, after}
+use Rattle.intake.specs.Reading.{Reading, lineIn}
+use Rattle.feed.specs.Input.{atStart, nothingRead, linesIn, linesOf}
 use Rattle.text.specs.Text.{header, tableText}
 use Rattle.show.specs.Shown.{rowsOf, baseTable, shownTable}
 use Rattle.console.specs.Standing.{sheetLayer}

@@ -19,7 +19,8 @@ use Rattle.read.proofs.Answers.{enough}
 use Rattle.fit.proofs.Answers.{fitted}
 use Rattle.base.specs.declared.Counts.{Counts}
 use Rattle.base.specs.Base.{Sheet, baseKeys, Roomy}
-use Rattle.feed.specs.Input.{atStart, nothingRead, bytesIn, inputEnds, linesIn, linesOf}
+use Rattle.intake.specs.Reading.{bytesIn}
+use Rattle.feed.specs.Input.{atStart, nothingRead, inputEnds, linesIn, linesOf}
 use Rattle.text.specs.Text.{header, tableText}
 use Rattle.show.specs.Shown.{baseTable, shownTable, ending, ifFormed, Formed}
 use Rattle.console.specs.Standing.{sheetLayer, Standing, WholeTable}

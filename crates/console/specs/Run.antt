@@ -1,8 +1,9 @@
 -- The input in blocks: each is taken where the last one left off, and what it says is written.
 use mathlib.Core.List.{List, [], _∷_, _++_}
 use Prim.Native.Nat.{ℕ}
-use Rattle.feed.specs.declared.Feed.{Feed}
-use Rattle.feed.specs.Input.{Reading, hushed, Took}
+use Rattle.intake.specs.declared.Feed.{Feed}
+use Rattle.intake.specs.Reading.{Reading, Took}
+use Rattle.feed.specs.Input.{hushed}
 
 -- one after the other
 abbrev pub endToEnd : List (List ℕ) → List ℕ

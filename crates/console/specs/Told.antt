@@ -13,7 +13,8 @@ use Rattle.text.specs.declared.Said.{Said}
 use Rattle.text.specs.declared.Said.the-variants.{Nothing, Unread, Refused}
 use Rattle.base.specs.Base.{Sheet, sheetOf}
 use Rattle.hear.specs.Heard.{heard}
-use Rattle.feed.specs.Input.{Reading, nothingRead, lineIn, bytesIn, inputEnds}
+use Rattle.intake.specs.Reading.{Reading, lineIn, bytesIn}
+use Rattle.feed.specs.Input.{nothingRead, inputEnds}
 use Rattle.text.specs.Text.{header}
 use Rattle.show.specs.Shown.{ending}
 

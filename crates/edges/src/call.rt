@@ -16,7 +16,7 @@ struct Args {
 fn place(a: Args, layer: &[u64]) {
     say::shift(position::shift(a.c, a.m, a.r, layer, a.j));
     say::answer(b", ", position::row(a.c, a.m, a.r, layer, a.j));
-    say::back(position::back(a.c, a.m, a.r, layer, a.j));
+    say::back(back::back(a.c, a.m, a.r, layer, a.j));
 }
 
 // After a read, what the viewers hand back.

@@ -46,12 +46,15 @@ pub fn note(file: &[u8]) -> usize
     }
 }
 
-// Reads the layer into the front of a slice; it answers the number of entries.
+// Reads the layer into the front of a slice; it answers the number of entries. An empty layer's file is told first, with no call.
 pub fn load(file: &[u8], layer: &mut [u64]) -> Answer
     ensures { λ r. ⌜ (let F = now (file .entry) in let O = now (layer .entry) in
         (r ≡ loadAnswer F (length O)) × (now (layer .exit) ≡ loadSlice F O)) ⌝ }
 {
-    match probe::check(file) {
+    if probe::empty(file) {
+        return Answer::Done(0);
+    }
+    match probe::whole(file) {
         Answer::Refused(x) => Answer::Refused(x),
         Answer::Done(m) => {
             let len = file.len();

@@ -42,7 +42,7 @@ fn part<'a>(file: &'a [u8], a: usize, e: usize) -> &'a [u8] {
 fn put(file: &mut [u8], at: usize, v: u64) {
     if 8 <= file.len() {
         if at <= file.len() - 8 {
-            little::put_number(file, at, v);
+            jot::put_number(file, at, v);
         }
     }
 }

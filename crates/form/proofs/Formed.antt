@@ -1,6 +1,6 @@
 -- The answer of the form check, case by case; and what is known of the entries and edits where none is at fault.
 -- Assumes nothing.
-use Prim.Native.Nat.{ℕ, suc, _+_, _-_, _≤_, _<_}
+use Prim.Native.Nat.{ℕ, zero, suc, _+_, _-_, _≤_, _<_}
 use native.Mathlib.Nat.{zero-add}
 use native.Mathlib.Omega.{arith}
 use mathlib.Core.Path.{_≡_, refl, sym, ap, _∙_}
@@ -17,7 +17,7 @@ use Rattle.order.proofs.Pairs.{AllPairs, Unbroken, unbroken, pairs-map}
 use Rattle.words.specs.declared.Entry.{Entry}
 use Rattle.words.specs.declared.Answer.the-variants.{Done, Refused}
 use Rattle.model.specs.Layer.{Edit, at, add, strike, change, Layer, position, isAdd, isStrike, rowsAfter}
-use Rattle.model.specs.Raw.{editOf, entriesOf, layerOf}
+use Rattle.model.specs.Raw.{editOf, entriesAt, entriesOf, layerOf}
 use Rattle.words.specs.Entry.{ADD, STRIKE}
 use Rattle.model.specs.Form.{zeros, sound, follows, formPlace, argsOk}
 use Rattle.model.specs.Refusals.{breaksForm}
@@ -25,7 +25,7 @@ use Rattle.words.specs.Answer.{refusal}
 use Rattle.model.specs.Calls.{formAnswer}
 use Rattle.theory.proofs.Raw.{entries-length, form-place, args-held}
 use Rattle.theory.proofs.Position.{follows-strike}
-use Rattle.scan.specs.Scan.{good, ofKind, Judged, judgement}
+use Rattle.scan.specs.Scan.{good, goodFrom, ofKind, Judged, judgement}
 use Rattle.scan.proofs.ByKind.{add-kind, strike-kind}
 use Rattle.form.proofs.Place.{place, all-good}
 
@@ -172,3 +172,12 @@ module _ (c n m : ℕ) (xs : List ℕ) (ok : argsOk c n m (length xs) ≡ true) 
         by true e u f = place-refused p (seen .0) (ltb-true p m e)
         by false e true f = counted p a s (ltb-false p m e) seen .total (ltb-true (4096 + s) (n + a) f)
         by false e false f = counted p a s (ltb-false p m e) seen .accept (ltb-false (4096 + s) (n + a) f)
+
+-- an empty layer whose arguments pass is in form, and its rows are those of the base
+pub empty-done : (c n m : ℕ) (xs : List ℕ) → m ≡ 0 → argsOk c n m (length xs) ≡ true → Done n ≡ formAnswer c n m xs
+unfolding entriesAt goodFrom
+empty-done c n zero xs z ok =
+    let k = counted c n 0 xs ok 0 0 0 (omega arith) (refl, refl, refl) in
+    let e : n ≡ (n + 0) - 0 = omega arith in
+    ap Done e ∙ k .accept (omega (arith, k .base))
+empty-done c n (suc m) xs z ok = absurd (omega (arith, z))

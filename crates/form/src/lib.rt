@@ -48,3 +48,16 @@ pub fn check(c: usize, n: usize, m: usize, layer: &[u64]) -> Answer
     }
     judge(n, m, scan::scan_layer(c, n, m, layer))
 }
+
+// The same check, for calls that are made of empty layers too: such a layer has only its arguments to check, which spares it the pass over entries.
+pub fn check_layer(c: usize, n: usize, m: usize, layer: &[u64]) -> Answer
+    ensures { λ r. ⌜ r ≡ formAnswer c n m (now (layer .entry)) ⌝ }
+{
+    if m == 0 {
+        if args_ok(c, n, m, layer.len()) {
+            return Answer::Done(n);
+        }
+        return Answer::refused(1, 0);
+    }
+    check(c, n, m, layer)
+}

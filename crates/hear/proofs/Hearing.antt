@@ -13,7 +13,8 @@ use Rattle.text.specs.declared.Said.the-variants.{Unread}
 use Rattle.base.specs.declared.Counts.{Counts}
 use Rattle.base.specs.declared.Reply.{Reply}
 use Rattle.base.specs.Base.{Sheet, columnOf, sheetOf, mostBase, stay, Based}
-use Rattle.hear.specs.Heard.{entered, heard, after, Heard}
+use Rattle.reply.specs.Reply.{entered}
+use Rattle.hear.specs.Heard.{heard, after, Heard}
 
 -- a line heard as what it says
 pub heard-as : {l k : Line} {d : Counts} {x x′ : Sheet} {r : Reply} → Heard k d x r x′ → l ≡ k → Heard l d x r x′

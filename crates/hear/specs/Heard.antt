@@ -1,8 +1,7 @@
 -- What a line does to the base table and the layer over it, and says.
 use mathlib.Core.Path.{_≡_}
-use mathlib.Core.Bool.{true}
 use mathlib.Core.List.{List, [], _∷_}
-use Prim.Native.Nat.{ℕ, _+_}
+use Prim.Native.Nat.{ℕ}
 use Rattle.model.specs.Calls.{
   edited,
   addAnswer,
@@ -13,24 +12,13 @@ use Rattle.model.specs.Calls.{
   changedLayer,
 }
 use Rattle.words.specs.declared.Answer.{Answer}
-use Rattle.words.specs.declared.Answer.the-variants as answer
 use Rattle.line.specs.declared.Line.{Line}
 use Rattle.line.specs.declared.Line.the-variants.{Base, Add, Strike, Change, Unreadable}
-use Rattle.text.specs.declared.Said.the-variants.{Nothing, Unread, Refused}
+use Rattle.text.specs.declared.Said.the-variants.{Unread}
 use Rattle.base.specs.declared.Counts.{Counts}
 use Rattle.base.specs.declared.Reply.{Reply}
 use Rattle.base.specs.Base.{Sheet, baseKeys, stay, baseReply, baseTaken, withRow}
-
--- an edit line was read, and the edit answered so
-abbrev pub entered : Counts → Answer → Reply
-entered d (answer.Done k) = record {
-  counts = record { rows = d .rows; entries = k; edited = true; lines = d .lines + 1 };
-  said = Nothing;
-}
-entered d (answer.Refused q) = record {
-  counts = record { rows = d .rows; entries = d .entries; edited = true; lines = d .lines + 1 };
-  said = Refused (q .number);
-}
+use Rattle.reply.specs.Reply.{entered}
 
 -- the answer of each edit
 abbrev pub added : Counts → Sheet → List ℕ → Answer

@@ -1,41 +1,10 @@
 // The three edits.
 use base::Counts;
 use base::Reply;
-use text::Said;
-use words::Answer;
-ghost use mathlib.Core.Path.{_≡_};
 ghost use Prim.Native.Nat.{_≤_, _<_};
 ghost use Rattle.line.specs.declared.Line.the-variants.{Add, Strike, Change};
 ghost use Rattle.base.specs.Base.{mostBase, sheetOf};
-ghost use Rattle.hear.specs.Heard.{entered as Heard·entered, Heard};
-
-// The reply to an edit line whose edit answered so.
-fn entered(counts: Counts, answer: Answer) -> Reply
-    requires { ⌜ counts .lines < 9223372036854775808 ⌝ }
-    ensures { λ r. ⌜ r ≡ Heard·entered counts answer ⌝ }
-{
-    let lines = counts.lines + 1;
-    match answer {
-        Answer::Done(k) => Reply {
-            counts: Counts {
-                rows: counts.rows,
-                entries: k,
-                edited: true,
-                lines,
-            },
-            said: Said::Nothing,
-        },
-        Answer::Refused(x) => Reply {
-            counts: Counts {
-                rows: counts.rows,
-                entries: counts.entries,
-                edited: true,
-                lines,
-            },
-            said: Said::Refused(x.number),
-        },
-    }
-}
+ghost use Rattle.hear.specs.Heard.{Heard};
 
 // Adds a row.
 pub fn add_row(
@@ -54,7 +23,7 @@ pub fn add_row(
     let n = counts.rows;
     let numbers = &table[..];
     let answer = add::add(3, counts.entries, layer, &numbers[..n], &row);
-    entered(counts, answer)
+    reply::entered(counts, answer)
 }
 
 // Strikes row number r.
@@ -66,7 +35,7 @@ pub fn strike_row(counts: Counts, r: u64, table: &[u64; 1536], layer: &mut [u64;
     let n = counts.rows;
     let numbers = &table[..];
     let answer = strike::strike(3, counts.entries, layer, &numbers[..n], r as usize);
-    entered(counts, answer)
+    reply::entered(counts, answer)
 }
 
 // Changes column j of row number r to v.
@@ -93,5 +62,5 @@ pub fn change_row(
         j as usize,
         v,
     );
-    entered(counts, answer)
+    reply::entered(counts, answer)
 }

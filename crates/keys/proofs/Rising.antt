@@ -1,9 +1,9 @@
--- Keys that ascend from one of them on: from the first, one step further, four steps further, and from the last.
+-- Keys that ascend from one of them on: from the first, one step further, four steps further, as far again, and from the last.
 -- Assumes nothing.
 use Prim.Native.Nat.{ℕ, _+_, _≤_, _<_}
 use native.Mathlib.Numerals.{add-one}
 use native.Mathlib.Omega.{arith}
-use mathlib.Core.Path.{_≡_, refl}
+use mathlib.Core.Path.{_≡_, refl, ap, _∙_}
 use mathlib.Core.Bool.{Bool, true, false, _&&_}
 use mathlib.Core.List.{List, [], _∷_}
 use lib.ListN.{length, getD, drop, drop-of-length-le}
@@ -28,6 +28,10 @@ four-and true true false s t = refl
 four-and true false r s t = refl
 four-and false q r s t = refl
 
+and-on : (p q t : Bool) → p && (q && t) ≡ (p && q) && t
+and-on true q t = refl
+and-on false q t = refl
+
 module _ (K : List ℕ) where
   abbrev below : ℕ → ℕ → Bool
   below i j = ltb (getD K i 0) (getD K j 0)
@@ -51,3 +55,8 @@ module _ (K : List ℕ) where
         step (i + 3) (i + 4) (omega arith) (omega arith),
       )
       (four-and (below i (i + 1)) (below (i + 1) (i + 2)) (below (i + 2) (i + 3)) (below (i + 3) (i + 4)) (ascendFrom K (i + 4)))
+
+  pub on : (i j h k : ℕ) (p q : Bool) → ascendFrom K i ≡ p && ascendFrom K j → ascendFrom K j ≡ q && ascendFrom K h → h ≡ k
+      → ascendFrom K i ≡ (p && q) && ascendFrom K k
+  on i j h k p q e f g =
+      e ∙ (ap (λ (t : Bool). p && t) (f ∙ ap (λ (n : ℕ). q && ascendFrom K n) g) ∙ and-on p q (ascendFrom K k))

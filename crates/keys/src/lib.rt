@@ -20,6 +20,16 @@ fn five_ascend(keys: &[u64], i: usize) -> bool
     (a < b) & ((b < d) & ((d < e) & (e < f)))
 }
 
+// Nine keys, likewise.
+fn nine_ascend(keys: &[u64], i: usize) -> bool
+    requires { ⌜ i + 8 < length (now keys) ⌝ }
+    ensures { λ r. ⌜ ascendFrom (now (keys .entry)) i ≡ r && ascendFrom (now (keys .entry)) (i + 8) ⌝ }
+{
+    let low = five_ascend(keys, i);
+    let high = five_ascend(keys, i + 4);
+    low & high
+}
+
 // The keys from number `from` on ascend.
 fn ascend_from(keys: &[u64], from: usize) -> bool
     requires { ⌜ from < length (now keys) ⌝ }
@@ -35,7 +45,7 @@ fn ascend_from(keys: &[u64], from: usize) -> bool
     true
 }
 
-// The keys are strictly ascending: looked at by fours, then the last few one by one.
+// The keys are strictly ascending: looked at by eights, then the last few one by one.
 pub fn ascend(keys: &[u64]) -> bool
     ensures { λ r. ⌜ r ≡ ascending (now (keys .entry)) ⌝ }
 {
@@ -43,11 +53,11 @@ pub fn ascend(keys: &[u64]) -> bool
         return true;
     }
     let mut i: usize = 0;
-    while 4 < keys.len() - i {
-        if !five_ascend(keys, i) {
+    while 8 < keys.len() - i {
+        if !nine_ascend(keys, i) {
             return false;
         }
-        i += 4;
+        i += 8;
     }
     ascend_from(keys, i)
 }

@@ -1,12 +1,12 @@
--- Eight bytes read one by one are the number there, and eight stores are the number's bytes pasted.
+-- Eight bytes read one by one are the number there.
 -- Assumes nothing.
-use Prim.Native.Nat.{ℕ, suc, _+_, _/_, _%_, _≤_}
+use Prim.Native.Nat.{ℕ, suc, _+_, _≤_}
 use native.Mathlib.Omega.{arith}
 use mathlib.Core.Path.{_≡_, sym, ap}
 use mathlib.Core.List.{List, [], _∷_}
-use lib.ListN.{length, getD, take, drop, set}
-use lib.Seq.{drop-cons, sets, sets-eq, paste}
-use Rattle.little.specs.Little.{eight, number, numberAt}
+use lib.ListN.{length, getD, take, drop}
+use lib.Seq.{drop-cons}
+use Rattle.little.specs.Little.{number, numberAt}
 
 module _ (l : List ℕ) (at : ℕ) (r : at + 8 ≤ length l) where
   -- the eight bytes from `at` on
@@ -45,17 +45,3 @@ module _ (l : List ℕ) (at : ℕ) (r : at + 8 ≤ length l) where
       ≡ numberAt at l
   unfolding numberAt
   number-bytes = ap number (sym eight-bytes)
-
-  -- the bytes a to h stored from `at` on
-  pub eight-stores : (a b c d e f g h : ℕ)
-      → set (set (set (set (set (set (set (set l at a) (at + 1) b) (at + 2) c) (at + 3) d) (at + 4) e) (at + 5) f) (at + 6) g) (at + 7) h
-      ≡ paste l at (a ∷ b ∷ c ∷ d ∷ e ∷ f ∷ g ∷ h ∷ []) 8
-  eight-stores a b c d e f g h =
-      let e1 : at + 1 ≡ suc at = omega arith in
-      let e2 : at + 2 ≡ suc (suc at) = omega arith in
-      let e3 : at + 3 ≡ suc (suc (suc at)) = omega arith in
-      let e4 : at + 4 ≡ suc (suc (suc (suc at))) = omega arith in
-      let e5 : at + 5 ≡ suc (suc (suc (suc (suc at)))) = omega arith in
-      let e6 : at + 6 ≡ suc (suc (suc (suc (suc (suc at))))) = omega arith in
-      let e7 : at + 7 ≡ suc (suc (suc (suc (suc (suc (suc at)))))) = omega arith in
-      rw (e1, e2, e3, e4, e5, e6, e7) (sets-eq (a ∷ b ∷ c ∷ d ∷ e ∷ f ∷ g ∷ h ∷ []) l at r)

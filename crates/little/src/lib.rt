@@ -1,10 +1,9 @@
-// Numbers as eight bytes, little end first: read from bytes, and written to them.
+// Numbers as eight bytes, little end first: read from bytes.
 ghost use mathlib.Core.Path.{_≡_};
 ghost use mathlib.Core.List.{[], _∷_, _++_};
-ghost use Prim.Native.Nat.{_+_, _*_, _%_, _≤_, _<_};
-ghost use lib.ListN.{length, take, drop};
-ghost use lib.Seq.{paste};
-ghost use Rattle.little.specs.Little.{eight, number, numberAt, numbersAt, eights};
+ghost use Prim.Native.Nat.{_+_, _*_, _≤_, _<_};
+ghost use lib.ListN.{length, drop};
+ghost use Rattle.little.specs.Little.{number, numberAt, numbersAt};
 
 fn wide(b: u8) -> u64
     ensures { λ r. ⌜ (r ≡ b) × (r < 256) ⌝ }
@@ -43,35 +42,6 @@ pub fn number_at(file: &[u8], at: usize) -> u64
     )
 }
 
-// The lowest byte of a number.
-fn low(v: u64) -> u8
-    ensures { λ r. ⌜ r ≡ v % 256 ⌝ }
-{
-    (v % 256) as u8
-}
-
-// Writes the eight bytes of v from byte `at` on; the compiler joins them to one store.
-pub fn put_number(file: &mut [u8], at: usize, v: u64)
-    requires { ⌜ at + 8 ≤ length (now file) ⌝ }
-    ensures { λ _. ⌜ now (file .exit) ≡ paste (now (file .entry)) at (eight v) 8 ⌝ }
-{
-    let b = v / 256;
-    let c = b / 256;
-    let d = c / 256;
-    let e = d / 256;
-    let f = e / 256;
-    let g = f / 256;
-    let h = g / 256;
-    file[at] = low(v);
-    file[at + 1] = low(b);
-    file[at + 2] = low(c);
-    file[at + 3] = low(d);
-    file[at + 4] = low(e);
-    file[at + 5] = low(f);
-    file[at + 6] = low(g);
-    file[at + 7] = low(h);
-}
-
 // Reads the k numbers from byte `at` on into the front of out.
 pub fn read_numbers(file: &[u8], at: usize, k: usize, out: &mut [u64])
     requires { ⌜ (at + 8 * k ≤ length (now file)) × (k ≤ length (now out)) ⌝ }
@@ -79,15 +49,5 @@ pub fn read_numbers(file: &[u8], at: usize, k: usize, out: &mut [u64])
 {
     for i in 0..k {
         out[i] = number_at(file, at + 8 * i);
-    }
-}
-
-// Writes the first k numbers to the front of file, eight bytes each.
-pub fn write_numbers(k: usize, numbers: &[u64], file: &mut [u8])
-    requires { ⌜ (k ≤ length (now numbers)) × (8 * k ≤ length (now file)) ⌝ }
-    ensures { λ _. ⌜ now (file .exit) ≡ eights (take k (now (numbers .entry))) ++ drop (8 * k) (now (file .entry)) ⌝ }
-{
-    for i in 0..k {
-        put_number(file, 8 * i, numbers[i]);
     }
 }

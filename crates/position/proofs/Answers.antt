@@ -1,9 +1,9 @@
--- The answers of the three calls, case by case: refused as the form check refuses, else by their own tests.
+-- The answers of shift and row number, case by case: refused as the form check refuses, else by their own tests.
 -- Assumes nothing.
-use Prim.Native.Nat.{ℕ, zero, suc, _+_, _-_, _≤_, _<_}
+use Prim.Native.Nat.{ℕ, _≤_, _<_}
 use native.Mathlib.Omega.{arith}
 use mathlib.Core.Path.{_≡_, refl, sym, ap, _∙_}
-use mathlib.Core.Bool.{Bool, true, false, cond, _&&_}
+use mathlib.Core.Bool.{Bool, true, false, _&&_}
 use mathlib.Core.List.{List, [], _∷_}
 use lib.ListN.{length}
 use lib.IntN.{ℤ, pos, natAbs, _+ℤ_}
@@ -14,30 +14,18 @@ use Rattle.words.specs.declared.Answer.{Answer}
 use Rattle.words.specs.declared.Answer.the-variants.{Done, Refused}
 use Rattle.words.specs.declared.Shifted.{Shifted}
 use Rattle.words.specs.declared.Shifted.the-variants as shifted
-use Rattle.words.specs.declared.Back.the-variants as backed
-use Rattle.model.specs.Layer.{Layer, rowsAfter}
-use Rattle.model.specs.Raw.{layerOf, entriesAt}
+use Rattle.model.specs.Layer.{Layer}
+use Rattle.model.specs.Raw.{layerOf}
 use Rattle.model.specs.Form.{argsOk}
-use Rattle.model.specs.Position.{shift, rowOf, back}
-use Rattle.model.specs.Refusals.{Test, refuse, firstMet, badRow}
+use Rattle.model.specs.Position.{shift, rowOf}
+use Rattle.model.specs.Refusals.{Test, refuse, firstMet}
 use Rattle.words.specs.Answer.{refusal}
-use Rattle.model.specs.Calls.{formRows, formAnswer, shiftAnswer, rowAnswer, backAnswer, originAnswer}
+use Rattle.model.specs.Calls.{formRows, formAnswer, shiftAnswer, rowAnswer}
 use Rattle.theory.proofs.Stages.{onward}
 use Rattle.theory.proofs.Position.{row-never-negative}
-use Rattle.scan.specs.Scan.{goodFrom}
-use Rattle.form.proofs.Formed.{counted}
 use Rattle.form.proofs.Accepted.{accepted}
-use Rattle.form.proofs.Answers.{after-form, own-argument, after-own}
+use Rattle.form.proofs.Answers.{own-argument, after-own}
 use Rattle.tally.proofs.Small.{shift-small}
-
--- an empty layer whose arguments pass is in form, and its rows are those of the base
-pub empty-done : (c n m : ℕ) (xs : List ℕ) → m ≡ 0 → argsOk c n m (length xs) ≡ true → Done n ≡ formAnswer c n m xs
-unfolding entriesAt goodFrom
-empty-done c n zero xs z ok =
-    let k = counted c n 0 xs ok 0 0 0 (omega arith) (refl, refl, refl) in
-    let e : n ≡ (n + 0) - 0 = omega arith in
-    ap Done e ∙ k .accept (omega (arith, k .base))
-empty-done c n (suc m) xs z ok = absurd (omega (arith, z))
 
 -- what is known of a base position and a layer whose shift is answered
 pub record Asked (c m : ℕ) (xs : List ℕ) (s : ℕ) (d : ℤ) : Type 0 where
@@ -94,10 +82,3 @@ module _ (c n m : ℕ) (xs : List ℕ) (s : ℕ) where
           let h : s ≤ n = leb-true s n f in
           known h (formAnswer c n m xs) refl (sym (shift-within h) ∙ e)
       go false f = let g = shift-past (leb-false s n f) in impossible (cc)
-
-  -- the way back: as the form check refuses, then for its row number
-  pub back-checked : backAnswer c n m xs s
-      ≡ onward backed.Refused (formAnswer c n m xs)
-      (cond (leb (rowsAfter n L) s) (backed.Refused (refusal 5 0)) (originAnswer (back n L s)))
-  unfolding backAnswer
-  back-checked = after-form backed.Refused c n m xs (badRow n L s ∷ []) (originAnswer (back n L s))

@@ -6,14 +6,9 @@ use Rattle.position.proofs.shift.Kinds as shift-call
 use Rattle.position.proofs.shift.Reads as shift-promise
 use Rattle.position.proofs.row.Kinds as row-call
 use Rattle.position.proofs.row.Reads as row-promise
-use Rattle.position.proofs.back.Kinds as back-call
-use Rattle.position.proofs.back.Reads as back-promise
 
 pub shift-unique : Unique 1 shift-call.ps shift-call.r shift-promise.Post
 shift-unique κs lent x y s t p q = p ∙ sym q
 
 pub row-unique : Unique 1 row-call.ps row-call.r row-promise.Post
 row-unique κs lent x y s t p q = p ∙ sym q
-
-pub back-unique : Unique 1 back-call.ps back-call.r back-promise.Post
-back-unique κs lent x y s t p q = p ∙ sym q

@@ -1,6 +1,5 @@
-// Shifts, row numbers, and back from a row number to what stands there.
+// Shifts and row numbers.
 use words::Answer;
-use words::Back;
 use words::Refusal;
 use words::Shifted;
 ghost use mathlib.Core.Path.{_≡_};
@@ -8,7 +7,7 @@ ghost use mathlib.Core.Bool.{true};
 ghost use Prim.Native.Nat.{_≤_};
 ghost use lib.IntN.{pos, natAbs, _+ℤ_};
 ghost use lib.Signed.{nonNeg};
-ghost use Rattle.model.specs.Calls.{formAnswer, shiftAnswer, rowAnswer, backAnswer};
+ghost use Rattle.model.specs.Calls.{shiftAnswer, rowAnswer};
 
 // Position s moved by d, which takes it to no negative row.
 fn shifted(s: usize, d: i64) -> usize
@@ -16,19 +15,6 @@ fn shifted(s: usize, d: i64) -> usize
     ensures { λ r. ⌜ pos r ≡ pos s +ℤ d ⌝ }
 {
     ((s as i64) + d) as usize
-}
-
-// The check of the layer: an empty one has only its arguments to check, which spares it the pass over entries.
-fn check_layer(c: usize, n: usize, m: usize, layer: &[u64]) -> Answer
-    ensures { λ r. ⌜ r ≡ formAnswer c n m (now (layer .entry)) ⌝ }
-{
-    if m == 0 {
-        if form::args_ok(c, n, m, layer.len()) {
-            return Answer::Done(n);
-        }
-        return Answer::refused(1, 0);
-    }
-    form::check(c, n, m, layer)
 }
 
 // The shift at base position s, 0 to n: adds up to and including s, less strikes before s.
@@ -41,7 +27,7 @@ pub fn shift(c: usize, n: usize, m: usize, layer: &[u64], s: usize) -> Shifted
             place: 0,
         });
     }
-    let f = check_layer(c, n, m, layer);
+    let f = form::check_layer(c, n, m, layer);
     match f {
         Answer::Done(_) => Shifted::By(tally::shift_at(c, m, layer, s)),
         Answer::Refused(x) => Shifted::Refused(x),
@@ -57,24 +43,5 @@ pub fn row(c: usize, n: usize, m: usize, layer: &[u64], s: usize) -> Answer
     match f {
         Shifted::By(d) => Answer::Done(shifted(s, d)),
         Shifted::Refused(x) => Answer::Refused(x),
-    }
-}
-
-// Back from row number r: the base row or the added entry that stands there.
-pub fn back(c: usize, n: usize, m: usize, layer: &[u64], r: usize) -> Back
-    ensures { λ o. ⌜ o ≡ backAnswer c n m (now (layer .entry)) r ⌝ }
-{
-    let f = check_layer(c, n, m, layer);
-    match f {
-        Answer::Done(rows) => {
-            if rows <= r {
-                return Back::Refused(Refusal {
-                    number: 5,
-                    place: 0,
-                });
-            }
-            mark::origin_of(c, n, m, layer, r)
-        }
-        Answer::Refused(x) => Back::Refused(x),
     }
 }

@@ -1,7 +1,7 @@
 -- What the file check and the reader answer, case by case, from the answer of the form check; and what is known of an accepted file.
 -- Assumes nothing.
 use Prim.Native.Nat.{ℕ, _+_, _*_, _-_, _≤_, _<_}
-use native.Mathlib.Nat.{zero-add}
+use native.Mathlib.Nat.{zero-add, zero-mul}
 use native.Mathlib.Omega.{arith}
 use mathlib.Core.Path.{_≡_, refl, sym, ap, _∙_}
 use mathlib.Core.Bool.{Bool, true, false, not, _&&_, _||_}
@@ -9,21 +9,21 @@ use mathlib.Core.List.{List, [], _∷_, _++_}
 use lib.ListN.{length, drop}
 use lib.Dec.{ltb, leb, eqb}
 use borrow.Author.Tests.{lt-ltb, le-ltb, le-leb, leb-true, ltb-false, eqb-true, eq-eqb, not-false}
-use Rattle.order.proofs.Tests.{or-false}
+use Rattle.order.proofs.Tests.{and-l, and-r, or-false}
 use Rattle.little.specs.Little.{numbersAt}
 use Rattle.little.proofs.Numbers.{numbers-length}
 use Rattle.words.specs.declared.Refusal.{Refusal}
 use Rattle.words.specs.declared.Answer.{Answer}
 use Rattle.words.specs.declared.Answer.the-variants.{Done, Refused}
 use Rattle.words.specs.Answer.{refusal}
-use Rattle.model.specs.Raw.{Held, layerOf}
-use Rattle.model.specs.Layer.{rowsAfter}
+use Rattle.model.specs.Raw.{Held}
 use Rattle.model.specs.Form.{argsOk}
-use Rattle.model.specs.Refusals.{Test, refuse, firstMet, badForm, breaksForm}
+use Rattle.model.specs.Refusals.{Test, refuse, firstMet}
 use Rattle.model.specs.Calls.{formAnswer, written}
 use Rattle.theory.proofs.Stages.{onward, raised, stage, stage-passed}
 use Rattle.theory.proofs.Raw.{small, args-held}
 use Rattle.form.specs.InForm.{InForm}
+use Rattle.form.proofs.Formed.{empty-done}
 use Rattle.form.proofs.Answers.{form-row}
 use Rattle.form.proofs.Accepted.{in-form-by}
 use Rattle.format.specs.File.{
@@ -161,6 +161,21 @@ module _ (f : List ℕ) where
       pub form-done : misfits f ≡ false → (k : ℕ) → formAnswer c n m (layerNumbers f) ≡ Done k → Done m ≡ fileAnswer f
       form-done h k e = sym (after-trailer h ∙ rw e)
 
+      -- an empty layer has nothing to pass over
+      pub none-at-fault : back f ≡ 32 → entries f ≡ 0 → length f ≤ 288 → fileAnswer f ≡ Done 0
+      unfolding misfits
+      none-at-fault b z l =
+          let r : reach c m ≡ 32 = omega (arith, ap (λ (k : ℕ). k * (c + 2)) z, zero-mul (c + 2)) in
+          let h : misfits f ≡ false =
+          rw (
+            eq-eqb (back f) (reach c m) (omega (arith, b, r)),
+            le-ltb (length f) (back f) (omega (arith, b, long)),
+            le-ltb (back f + 256) (length f) (omega (arith, b, l)),
+          ) in
+          after-trailer h
+          ∙ ap (λ (a : Answer). onward Refused a (Done m)) (sym (empty-done c n m (layerNumbers f) z numbers-ok))
+          ∙ ap Done z
+
   -- an accepted file
   pub record Kept (k : ℕ) : Type 0 where
     pub long : 32 ≤ length f
@@ -212,6 +227,18 @@ unfolding misfits
 test-is f b m c eb em ec =
     same-misfit b (reach c m) (length f)
     ∙ (λ i. not (eqb (eb i) (reach (ec i) (em i))) || (ltb (length f) (eb i) || ltb (eb i + 256) (length f)))
+
+-- an empty layer's file, as code has read and tested its trailer
+module _ (f : List ℕ) (b m c n : ℕ) (eb : b ≡ back f) (em : m ≡ entries f) (ec : c ≡ columns f) (en : n ≡ rows f) where
+  pub told-empty : 32 ≤ length f → m ≡ 0 → (t : Bool) → t ≡ argsOk c n m 5120
+      → t && (eqb b 32 && leb (length f) 288) ≡ true → fileAnswer f ≡ Done 0
+  told-empty long z t a h =
+      let w = and-r t (eqb b 32 && leb (length f) 288) h in
+      none-at-fault f long
+      (sym (a ∙ (λ i. argsOk (ec i) (en i) (em i) 5120)) ∙ and-l t (eqb b 32 && leb (length f) 288) h)
+      (sym eb ∙ eqb-true b 32 (and-l (eqb b 32) (leb (length f) 288) w))
+      (sym em ∙ z)
+      (leb-true (length f) 288 (and-r (eqb b 32) (leb (length f) 288) w))
 
 pub fits-file : (f : List ℕ) → misfits f ≡ false → Fits (back f) (reach (columns f) (entries f)) (length f)
 unfolding misfits
@@ -272,3 +299,13 @@ module _ (f : List ℕ) (len : ℕ) where
 pub load-after : (f old : List ℕ) (r : Answer) → r ≡ loadAnswer f (length old)
     → written r (layerNumbers f) old ≡ loadSlice f old
 load-after f old r e = ap (λ (a : Answer). written a (layerNumbers f) old) e
+
+-- an empty layer leaves the slice as it was
+pub load-none : (f old : List ℕ) → fileAnswer f ≡ Done 0 → (Done 0 ≡ loadAnswer f (length old)) × (old ≡ loadSlice f old)
+unfolding layerNumbers numbersAt
+load-none f old e =
+    let w : width (columns f) (entries f) ≡ 0 =
+    omega (arith, ap (λ (k : ℕ). k * (columns f + 2)) (kept f 0 e .counted), zero-mul (columns f + 2)) in
+    let n : layerNumbers f ≡ [] = ap (λ (k : ℕ). numbersAt k (length f - back f) f) w in
+    let a = load-enough f (length old) 0 e (omega (arith, w)) in
+    (a, sym (ap (λ (xs : List ℕ). xs ++ drop (length xs) old) n) ∙ load-after f old (Done 0) a)

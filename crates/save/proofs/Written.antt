@@ -1,8 +1,8 @@
 -- What save answers and leaves: the numbers of the layer, then the trailer.
 -- Assumes nothing.
-use Prim.Native.Nat.{ℕ, _+_, _*_, _≤_, _<_}
+use Prim.Native.Nat.{ℕ, _+_, _*_, _-_, _≤_, _<_}
 use native.Mathlib.Omega.{arith}
-use mathlib.Core.Path.{_≡_, refl, sym, ap, _∙_}
+use mathlib.Core.Path.{_≡_, sym, ap, _∙_}
 use mathlib.Core.List.{List, [], _∷_, _++_}
 use lib.ListN.{length, take, drop, length-append}
 use lib.Seq.{take-at, take-all, drop-append-add, drop-drop, length-take-le, paste}
@@ -15,7 +15,7 @@ use Rattle.words.specs.declared.Refusal.{Refusal}
 use Rattle.words.specs.declared.Answer.{Answer}
 use Rattle.words.specs.declared.Answer.the-variants.{Done, Refused}
 use Rattle.words.specs.Answer.{refusal}
-use Rattle.model.specs.Raw.{layerOf, flat}
+use Rattle.model.specs.Raw.{layerOf}
 use Rattle.model.specs.Refusals.{Test, refuse, firstMet}
 use Rattle.model.specs.Calls.{formAnswer, written}
 use Rattle.theory.proofs.Stages.{onward}

@@ -13,10 +13,10 @@ fn put_trailer(c: usize, n: usize, m: usize, reach: usize, at: usize, out: &mut 
     requires { ⌜ at + 32 ≤ length (now out) ⌝ }
     ensures { λ _. ⌜ now (out .exit) ≡ paste (now (out .entry)) at (eights (reach ∷ m ∷ c ∷ n ∷ [])) 32 ⌝ }
 {
-    little::put_number(out, at, reach as u64);
-    little::put_number(out, at + 8, m as u64);
-    little::put_number(out, at + 16, c as u64);
-    little::put_number(out, at + 24, n as u64);
+    jot::put_number(out, at, reach as u64);
+    jot::put_number(out, at + 8, m as u64);
+    jot::put_number(out, at + 16, c as u64);
+    jot::put_number(out, at + 24, n as u64);
 }
 
 // Writes the layer of m entries to the front of out, with no note; it answers the number of bytes.
@@ -24,7 +24,7 @@ pub fn save(c: usize, n: usize, m: usize, layer: &[u64], out: &mut [u8]) -> Answ
     ensures { λ r. ⌜ (let L = now (layer .entry) in let O = now (out .entry) in
         (r ≡ saveAnswer c n m L (length O)) × (now (out .exit) ≡ saveSlice c n m L O)) ⌝ }
 {
-    match form::check(c, n, m, layer) {
+    match form::check_layer(c, n, m, layer) {
         Answer::Refused(x) => Answer::Refused(x),
         Answer::Done(_) => {
             let k = m * (c + 2);
@@ -32,7 +32,7 @@ pub fn save(c: usize, n: usize, m: usize, layer: &[u64], out: &mut [u8]) -> Answ
             if out.len() < reach {
                 return Answer::refused(11, 0);
             }
-            little::write_numbers(k, layer, out);
+            jot::write_numbers(k, layer, out);
             put_trailer(c, n, m, reach, 8 * k, out);
             Answer::Done(reach)
         }

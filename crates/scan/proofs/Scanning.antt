@@ -57,21 +57,22 @@ module _ {c n m : ℕ} {xs : List ℕ} {i from p q adds strikes : ℕ} (s : Scan
         few-strikes = omega (arith, s .few-strikes, one-le (ofKind STRIKE (entryAt c from xs)));
       }
 
-  abbrev pub Seen : Type 0
-  Seen = (i ≡ length (good c n (entriesOf c m xs)))
+  -- the pass is complete: its counts are those of what stands before the first entry at fault
+  abbrev pub Complete : Type 0
+  Complete = (i ≡ length (good c n (entriesOf c m xs)))
       × (adds ≡ count (ofKind ADD) (good c n (entriesOf c m xs)))
       × (strikes ≡ count (ofKind STRIKE) (good c n (entriesOf c m xs)))
 
   -- nothing is good in the rest
-  done : goodFrom c n p q (entriesAt c (m - i) from xs) ≡ [] → Seen
+  done : goodFrom c n p q (entriesAt c (m - i) from xs) ≡ [] → Complete
   done e = (
     omega (arith, rw e at (s .placed)),
     omega (arith, rw e at (s .added)),
     omega (arith, rw e at (s .struck)),
   )
 
-  pub stop : i < m → goodAfter c n p q (entryAt c from xs) ≡ false → Seen
+  pub stop : i < m → goodAfter c n p q (entryAt c from xs) ≡ false → Complete
   stop h g = done (good-stop c n m p q i from xs h g)
 
-  pub end : m ≤ i → Seen
+  pub end : m ≤ i → Complete
   end h = done (good-end c n m p q i from xs h)

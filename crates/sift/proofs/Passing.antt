@@ -4,19 +4,37 @@ use Prim.Native.Nat.{ℕ, suc, _+_, _*_, _-_, _≤_, _<_}
 use native.Mathlib.Nat.{suc-mul, zero-mul}
 use native.Mathlib.Omega.{arith}
 use mathlib.Core.Path.{_≡_, refl, sym, ap, _∙_, subst}
-use mathlib.Core.Bool.{true, false}
+use mathlib.Core.Bool.{Bool, true, false, not, _&&_, and-true, and-false, true≢false}
 use mathlib.Core.List.{List, _++_}
 use lib.ListN.{length, getD, take, drop}
+use borrow.Author.Tests.{not-false}
 use Rattle.order.specs.Lists.{one}
+use Rattle.order.proofs.Tests.{and-of}
 use Rattle.words.specs.declared.Entry.{Entry}
 use Rattle.words.specs.Entry.{ADD, STRIKE}
 use Rattle.little.specs.Little.{numberAt, numbersAt}
 use Rattle.little.proofs.Numbers.{numbers-length, numbers-get, part-numbers}
 use Rattle.model.specs.Raw.{Held, entryAt}
 use Rattle.theory.proofs.Raw.{within}
-use Rattle.scan.specs.Scan.{goodAfter, ofKind}
+use Rattle.scan.specs.Scan.{followsKind, aloneGood, goodAfter, ofKind}
 use Rattle.scan.proofs.Scanning as form
 use Rattle.format.specs.File.{width, back, entries, columns, rows, entryIn, InFile}
+
+-- two tests in turn are one: the first fails, the second fails, both pass
+first-fails : (a b : Bool) → not a ≡ true → a && b ≡ false
+first-fails true b e = absurd (true≢false (sym e))
+first-fails false b e = refl
+
+pub last-fails : (a b : Bool) → not b ≡ true → a && b ≡ false
+last-fails a true e = absurd (true≢false (sym e))
+last-fails a false e = and-false a
+
+pub last-passes : (a b : Bool) → not b ≡ false → a && b ≡ a
+last-passes a true e = and-true a
+last-passes a false e = absurd (true≢false e)
+
+pub both-pass : (a b : Bool) → not a ≡ false → not b ≡ false → a && b ≡ true
+both-pass a b e f = and-of a b (not-false a e) (not-false b f)
 
 entry-in : (c k from start : ℕ) (f : List ℕ) → from + (c + 2) ≤ k
     → entryAt c from (numbersAt k start f) ≡ entryIn c (start + 8 * from) f
@@ -72,10 +90,16 @@ module _ (c n m start : ℕ) (f : List ℕ) (r : InFile c m start f) where
           stands = omega (arith, s .stands, w);
         }
 
-    pub stop : i < m → goodAfter c n p q (entryIn c at f) ≡ false → form.Seen (s .scanning)
+    pub stop : i < m → goodAfter c n p q (entryIn c at f) ≡ false → form.Complete (s .scanning)
     stop h g = form.stop (s .scanning) h (ap (goodAfter c n p q) (here h) ∙ g)
 
-    pub end : m ≤ i → form.Seen (s .scanning)
+    -- at an entry that breaks a rule alone
+    pub stop-alone : i < m → (r : Bool) → r ≡ aloneGood c n (entryIn c at f) → not r ≡ true → form.Complete (s .scanning)
+    stop-alone h r e t =
+        let b = followsKind p q (entryIn c at f .pos) (entryIn c at f .kind) in
+        stop h (ap (λ (a : Bool). a && b) (sym e) ∙ first-fails r b t)
+
+    pub end : m ≤ i → form.Complete (s .scanning)
     end h = form.end (s .scanning) h
 
 -- the four numbers of the trailer, read as a run

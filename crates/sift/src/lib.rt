@@ -34,10 +34,13 @@ fn alone_good(c: usize, n: usize, at: usize, file: &[u8]) -> bool
     if k == Entry::ADD {
         return s <= n as u64;
     }
-    tail_zero(c, at + 16, file) & scan::base_good(c, n, s, k)
+    if !scan::base_good(c, n, s, k) {
+        return false;
+    }
+    tail_zero(c, at + 16, file)
 }
 
-// The pass over the m entries from byte `start` on.
+// The pass over the m entries from byte `start` on. Each test is a branch of its own, which no entry of an accepted file takes.
 pub fn scan_file(c: usize, n: usize, m: usize, start: usize, file: &[u8]) -> Scan
     requires { ⌜ InFile c m start (now file) ⌝ }
     ensures { λ r. ⌜ (let es = entriesOf c m (numbersAt (width c m) start (now (file .entry))) in
@@ -53,7 +56,14 @@ pub fn scan_file(c: usize, n: usize, m: usize, start: usize, file: &[u8]) -> Sca
     while i < m {
         let s = little::number_at(file, at);
         let k = little::number_at(file, at + 8);
-        if !(alone_good(c, n, at, file) & scan::follows(p, q, s, k)) {
+        if !alone_good(c, n, at, file) {
+            return Scan {
+                place: i,
+                adds,
+                strikes,
+            };
+        }
+        if !scan::follows(p, q, s, k) {
             return Scan {
                 place: i,
                 adds,

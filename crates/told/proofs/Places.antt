@@ -28,7 +28,8 @@ use Rattle.theory.proofs.Position.{back-added}
 use Rattle.theory.proofs.Origin.{origin-added}
 use Rattle.theory.proofs.Stages.{onward}
 use Rattle.form.proofs.Accepted.{accepted}
-use Rattle.position.proofs.Answers.{asked, back-checked}
+use Rattle.position.proofs.Answers.{asked}
+use Rattle.back.proofs.Answers.{back-checked}
 
 module _ (c n m : ℕ) (xs : List ℕ) (s : ℕ) where
   shift-by : (z : ℤ) → shiftAnswer c n m xs s ≡ shifted.By z → natAbs z ≤ 512

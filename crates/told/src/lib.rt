@@ -38,9 +38,9 @@ pub fn tell(a: Answer) -> Told
             number: 0,
             value: k,
         },
-        Answer::Refused(x) => Told {
-            number: x.number,
-            value: x.place,
+        Answer::Refused(why) => Told {
+            number: why.number,
+            value: why.place,
         },
     }
 }

@@ -4,7 +4,7 @@ use mathlib.Core.Path.{_≡_, refl, sym, ap, _∙_}
 use mathlib.Core.Bool.{Bool, true, false, _&&_}
 use mathlib.Core.List.{List, [], _∷_, append-nil}
 use Prim.Native.Nat.{ℕ, _+_, _*_, _≤_, _<_}
-use native.Mathlib.Nat.{zero-mul, suc-mul, add-mul}
+use native.Mathlib.Nat.{zero-mul, suc-mul, add-mul, mul-le-mul}
 use native.Mathlib.Omega.{arith}
 use lib.ListN.{length, getD, drop}
 use lib.Dec.{leb, ltb, eqb}
@@ -78,8 +78,8 @@ inside i m h = by (ltb i m) refl
     by true e = ltb-true i m e
     by false e = absurd (h (ltb-false i m e))
 
-module _ {c mR : ℕ} {r : List ℕ} {mW : ℕ} {w : List ℕ} {k : Place} {puts : Puts} {len : ℕ}
-    (g : Leaves c mR r mW w k puts len) where
+module _ {write : Bool} {c mR : ℕ} {r : List ℕ} {mW : ℕ} {w : List ℕ} {k : Place} {puts : Puts} {len : ℕ}
+    (g : Leaves write c mR r mW w k puts len) where
   pub low : Accepted c (g .lower .over) mR r (g .lower .rows)
   low = accepted c (g .lower .over) mR r (g .lower .rows) (g .lower .form)
 
@@ -92,6 +92,9 @@ module _ {c mR : ℕ} {r : List ℕ} {mW : ℕ} {w : List ℕ} {k : Place} {puts
   pub upper-off : k .j * (c + 2) ≤ 5120
   upper-off = small {m = k .j} {c = c} (omega (arith, g .upper-upto, up .held .entries)) (up .held .columns)
 
+  pub offset : k .m * (c + 2) ≤ 10240
+  offset = mul-le-mul {n₁ = k .m} {m₁ = c + 2} {n₂ = 1024} {m₂ = 10} (g .few) (omega (arith, low .held .columns))
+
   -- the changes that the upper layer goes on with are of columns of a row
   pub row : Row c mW w (record { i = k .j; at = k .j * (c + 2) }) c
   row = record {
@@ -102,14 +105,14 @@ module _ {c mR : ℕ} {r : List ℕ} {mW : ℕ} {w : List ℕ} {k : Place} {puts
         (up .each (at s (change j e)) q)));
   }
 
--- what is written from m entries on: the numbers of one entry
-pub record Entered (c : ℕ) (L : Layer) (m len : ℕ) (ys : List ℕ) : Type 0 where
+-- what is written from m entries on where the walk writes: the numbers of one entry
+pub record Entered (write : Bool) (c : ℕ) (L : Layer) (m len : ℕ) (ys : List ℕ) : Type 0 where
   pub numbers : flat c L ≡ ys
   pub width : length ys ≡ c + 2
   pub single : length L ≡ 1
-  pub space : m * (c + 2) + (c + 2) ≤ len
+  pub space : write ≡ true → m * (c + 2) + (c + 2) ≤ len
 
-module _ (c mR : ℕ) (r : List ℕ) (mW : ℕ) (w : List ℕ) (k : Place) (len : ℕ) where
+module _ (write : Bool) (c mR : ℕ) (r : List ℕ) (mW : ℕ) (w : List ℕ) (k : Place) (len : ℕ) where
   abbrev R : Layer
   R = layerOf c mR r
 
@@ -123,14 +126,14 @@ module _ (c mR : ℕ) (r : List ℕ) (mW : ℕ) (w : List ℕ) (k : Place) (len 
   F = entryAt c (k .j * (c + 2)) w
 
   -- the lower layer's entry as it is
-  module _ (g : Leaves c mR r mW w k AsItIs len) where
+  module _ (g : Leaves write c mR r mW w k AsItIs len) where
     pub lower-in : k .i < mR
     lower-in = inside (k .i) mR (λ h. rw (left-end c mR (k .i) r h) at (g .takes))
 
     pub lower-room : k .i * (c + 2) + (c + 2) ≤ length r
     lower-room = room-here c mR (k .i) r (low g .held) lower-in
 
-    pub lower-put : Entered c (left AsItIs (drop (k .i) R) (drop (k .j) W)) (k .m) len (E .pos ∷ E .kind ∷ E .vals)
+    pub lower-put : Entered write c (left AsItIs (drop (k .i) R) (drop (k .j) W)) (k .m) len (E .pos ∷ E .kind ∷ E .vals)
     lower-put =
         let L = left AsItIs (drop (k .i) R) (drop (k .j) W) in
         let e : L ≡ editOf E ∷ [] = rw (left-step c mR (k .i) r lower-in) in
@@ -138,18 +141,18 @@ module _ (c mR : ℕ) (r : List ℕ) (mW : ℕ) (w : List ℕ) (k : Place) (len 
           numbers = flat-one c L (editOf E) (E .pos ∷ E .kind ∷ E .vals) e (entry-here (low g) (k .i) lower-in (E .pos));
           width = omega (arith, vals-length c (k .i * (c + 2)) r lower-room);
           single = ap length e;
-          space = one-more c (k .m) len L (editOf E) e (g .room);
+          space = λ h. one-more c (k .m) len L (editOf E) e (g .room h);
         }
 
   -- the upper layer's entry at a position
-  module _ (p : ℕ) (g : Leaves c mR r mW w k (UpperAt p) len) where
+  module _ (p : ℕ) (g : Leaves write c mR r mW w k (UpperAt p) len) where
     pub upper-in : k .j < mW
     upper-in = inside (k .j) mW (λ h. rw (left-end c mW (k .j) w h) at (g .takes))
 
     pub upper-room : k .j * (c + 2) + (c + 2) ≤ length w
     upper-room = room-here c mW (k .j) w (up g .held) upper-in
 
-    pub upper-put : Entered c (left (UpperAt p) (drop (k .i) R) (drop (k .j) W)) (k .m) len (p ∷ F .kind ∷ F .vals)
+    pub upper-put : Entered write c (left (UpperAt p) (drop (k .i) R) (drop (k .j) W)) (k .m) len (p ∷ F .kind ∷ F .vals)
     upper-put =
         let L = left (UpperAt p) (drop (k .i) R) (drop (k .j) W) in
         let e : L ≡ placed p (editOf F) ∷ [] = rw (left-step c mW (k .j) w upper-in) in
@@ -157,11 +160,11 @@ module _ (c mR : ℕ) (r : List ℕ) (mW : ℕ) (w : List ℕ) (k : Place) (len 
           numbers = flat-one c L (placed p (editOf F)) (p ∷ F .kind ∷ F .vals) e (entry-here (up g) (k .j) upper-in p);
           width = omega (arith, vals-length c (k .j * (c + 2)) w upper-room);
           single = ap length e;
-          space = one-more c (k .m) len L (placed p (editOf F)) e (g .room);
+          space = λ h. one-more c (k .m) len L (placed p (editOf F)) e (g .room h);
         }
 
   -- where a turn takes an edit of each layer, both are there
-  module _ {puts : Puts} (g : Leaves c mR r mW w k puts len) (upper : (X : Layer) → Takes puts X [] → ⊥)
+  module _ {puts : Puts} (g : Leaves write c mR r mW w k puts len) (upper : (X : Layer) → Takes puts X [] → ⊥)
       (lower : (f : Edit) (Y : Layer) → Takes puts [] (f ∷ Y) → ⊥) where
     both-there : (k .i < mR) × (k .j < mW)
     both-there =
@@ -175,7 +178,7 @@ module _ (c mR : ℕ) (r : List ℕ) (mW : ℕ) (w : List ℕ) (k : Place) (len 
         (room-here c mR (k .i) r (low g .held) (both-there .0), room-here c mW (k .j) w (up g .held) (both-there .1))
 
   -- the lower layer's added row with the upper's changes
-  module _ (g : Leaves c mR r mW w k Changed len) where
+  module _ (g : Leaves write c mR r mW w k Changed len) where
     both-in : (k .i < mR) × (k .j < mW)
     both-in = both-there g (λ X h. h) (λ f Y h. h)
 
@@ -185,7 +188,7 @@ module _ (c mR : ℕ) (r : List ℕ) (mW : ℕ) (w : List ℕ) (k : Place) (len 
     abbrev patch : List ℕ
     patch = patched (F .pos) (drop (k .j) W) (E .vals)
 
-    pub changed-put : Entered c (left Changed (drop (k .i) R) (drop (k .j) W)) (k .m) len (E .pos ∷ E .kind ∷ patch)
+    pub changed-put : Entered write c (left Changed (drop (k .i) R) (drop (k .j) W)) (k .m) len (E .pos ∷ E .kind ∷ patch)
     changed-put =
         let pe = left-step c mR (k .i) r (both-in .0) in
         let pf = left-step c mW (k .j) w (both-in .1) in
@@ -204,18 +207,18 @@ module _ (c mR : ℕ) (r : List ℕ) (mW : ℕ) (w : List ℕ) (k : Place) (len 
             vals-length c (k .i * (c + 2)) r (both-room .0),
           );
           single = ap length e;
-          space = one-more c (k .m) len L x e (g .room);
+          space = λ h. one-more c (k .m) len L x e (g .room h);
         }
 
   -- the upper layer's change over the lower's
-  module _ (g : Leaves c mR r mW w k Fused len) where
+  module _ (g : Leaves write c mR r mW w k Fused len) where
     fused-in : (k .i < mR) × (k .j < mW)
     fused-in = both-there g (λ X h. h) (λ f Y h. h)
 
     pub fused-room : (k .i * (c + 2) + (c + 2) ≤ length r) × (k .j * (c + 2) + (c + 2) ≤ length w)
     fused-room = room-there g (λ X h. h) (λ f Y h. h)
 
-    pub fused-put : Entered c (left Fused (drop (k .i) R) (drop (k .j) W)) (k .m) len (E .pos ∷ F .kind ∷ F .vals)
+    pub fused-put : Entered write c (left Fused (drop (k .i) R) (drop (k .j) W)) (k .m) len (E .pos ∷ F .kind ∷ F .vals)
     fused-put =
         let L = left Fused (drop (k .i) R) (drop (k .j) W) in
         let x = placed (E .pos) (editOf F) in
@@ -226,11 +229,11 @@ module _ (c mR : ℕ) (r : List ℕ) (mW : ℕ) (w : List ℕ) (k : Place) (len 
           numbers = flat-one c L x (E .pos ∷ F .kind ∷ F .vals) e (entry-here (up g) (k .j) (fused-in .1) (E .pos));
           width = omega (arith, vals-length c (k .j * (c + 2)) w (fused-room .1));
           single = ap length e;
-          space = one-more c (k .m) len L x e (g .room);
+          space = λ h. one-more c (k .m) len L x e (g .room h);
         }
 
-wide : (c : ℕ) {L : Layer} {m len : ℕ} {ys : List ℕ} → Entered c L m len ys → length (flat c L) ≡ length L * (c + 2)
-wide c {L} e =
+wide : (c : ℕ) {write : Bool} {L : Layer} {m len : ℕ} {ys : List ℕ} → Entered write c L m len ys → length (flat c L) ≡ length L * (c + 2)
+wide c {write} {L} e =
     omega (
       arith,
       ap length (e .numbers),
@@ -241,13 +244,13 @@ wide c {L} e =
     )
 
 -- as many numbers as entries have
-pub left-wide : {c mR : ℕ} {r : List ℕ} {mW : ℕ} {w : List ℕ} {k : Place} (puts : Puts) {len : ℕ}
-    → Leaves c mR r mW w k puts len
+pub left-wide : {write : Bool} {c mR : ℕ} {r : List ℕ} {mW : ℕ} {w : List ℕ} {k : Place} (puts : Puts) {len : ℕ}
+    → Leaves write c mR r mW w k puts len
     → let L = left puts (drop (k .i) (layerOf c mR r)) (drop (k .j) (layerOf c mW w)) in
     length (flat c L) ≡ length L * (c + 2)
 unfolding flat
-left-wide {c} {mR} {r} {mW} {w} {k} Nothing {len} g = sym (zero-mul (c + 2))
-left-wide {c} {mR} {r} {mW} {w} {k} AsItIs {len} g = wide c (lower-put c mR r mW w k len g)
-left-wide {c} {mR} {r} {mW} {w} {k} (UpperAt p) {len} g = wide c (upper-put c mR r mW w k len p g)
-left-wide {c} {mR} {r} {mW} {w} {k} Changed {len} g = wide c (changed-put c mR r mW w k len g)
-left-wide {c} {mR} {r} {mW} {w} {k} Fused {len} g = wide c (fused-put c mR r mW w k len g)
+left-wide {write} {c} {mR} {r} {mW} {w} {k} Nothing {len} g = sym (zero-mul (c + 2))
+left-wide {write} {c} {mR} {r} {mW} {w} {k} AsItIs {len} g = wide c (lower-put write c mR r mW w k len g)
+left-wide {write} {c} {mR} {r} {mW} {w} {k} (UpperAt p) {len} g = wide c (upper-put write c mR r mW w k len p g)
+left-wide {write} {c} {mR} {r} {mW} {w} {k} Changed {len} g = wide c (changed-put write c mR r mW w k len g)
+left-wide {write} {c} {mR} {r} {mW} {w} {k} Fused {len} g = wide c (fused-put write c mR r mW w k len g)

@@ -163,11 +163,11 @@ module _ {write : Bool} {c : ℕ} {K N : List ℕ} {R W : Layer} {out₀ : List 
     {k : Place} {out : List ℕ} (g : Going write c K N R W out₀ k out) where
   pub go-on : {t : Turn} (n : Next K N R W k t) (new : List ℕ) →
       let xs = left (t .puts) (drop (k .i) R) (drop (k .j) W) in
-      (write ≡ true → length (flat c xs) ≡ length xs * (c + 2)) → PutIf write (flat c xs) out (k .m * (c + 2)) new
+      length (flat c xs) ≡ length xs * (c + 2) → PutIf write (flat c xs) out (k .m * (c + 2)) new
       → Going write c K N R W out₀ (t .to) new
   go-on n new wide put = record {
     walked = walked-on (g .walked) n;
-    wrote = λ h. on (space h) (g .wrote h) n new (wide h) (put .wrote h);
+    wrote = λ h. on (space h) (g .wrote h) n new wide (put .wrote h);
     kept = λ h. put .kept h ∙ g .kept h;
   }
 

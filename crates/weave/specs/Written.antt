@@ -38,14 +38,16 @@ pub record Formed (c m : ℕ) (xs : List ℕ) : Type 0 where
   pub rows : ℕ
   pub form : formAnswer c over m xs ≡ Done rows
 
--- both layers are in form, and a turn leaves edits of theirs, for which there is room
-pub record Leaves (c mR : ℕ) (r : List ℕ) (mW : ℕ) (w : List ℕ) (k : Place) (puts : Puts) (len : ℕ) : Type 0 where
+-- both layers are in form, and a turn leaves edits of theirs, for which there is room where the walk writes
+pub record Leaves (write : Bool) (c mR : ℕ) (r : List ℕ) (mW : ℕ) (w : List ℕ) (k : Place) (puts : Puts) (len : ℕ) : Type 0 where
   pub lower : Formed c mR r
   pub upper : Formed c mW w
   pub lower-upto : k .i ≤ mR
   pub upper-upto : k .j ≤ mW
+  pub few : k .m ≤ 1024
   pub takes : Takes puts (drop (k .i) (layerOf c mR r)) (drop (k .j) (layerOf c mW w))
-  pub room : (k .m + length (left puts (drop (k .i) (layerOf c mR r)) (drop (k .j) (layerOf c mW w)))) * (c + 2) ≤ len
+  pub room : write ≡ true
+      → (k .m + length (left puts (drop (k .i) (layerOf c mR r)) (drop (k .j) (layerOf c mW w)))) * (c + 2) ≤ len
 
 -- the layer M, of m entries, stands at the front of the slice, and behind it what stood there
 pub record Woven (c : ℕ) (M : Layer) (m : ℕ) (old new : List ℕ) : Type 0 where

@@ -8,21 +8,46 @@ ghost use mathlib.Core.Bool.{true};
 ghost use mathlib.Core.List.{_∷_};
 ghost use Prim.Native.Nat.{_+_, _*_, _-_, _≤_};
 ghost use lib.ListN.{length, take, drop};
+ghost use lib.Seq.{paste};
 ghost use Rattle.model.specs.Raw.{entryAt, layerOf, flat};
 ghost use Rattle.woven.specs.Woven.{patched, wovenLayer};
 ghost use Rattle.over.specs.Over.{over};
 ghost use Rattle.turn.specs.Turn.{left, Both};
 ghost use Rattle.weave.specs.Written.{Put, PutIf, Row, Leaves, Rest, WovenIf};
 
+// Copies the numbers from `at` up to the end over those from o on, two a turn: both are read before either is written, so
+// that they move as one.
+fn copy_pairs(at: usize, end: usize, layer: &[u64], out: &mut [u64], o: usize)
+    requires { ⌜ (at ≤ end) × (end ≤ length (now layer)) × (o + (end - at) ≤ length (now out)) ⌝ }
+    ensures { λ _. ⌜ now (out .exit) ≡ paste (now (out .entry)) o (drop at (now (layer .entry))) (end - at) ⌝ }
+{
+    let mut a = at;
+    let mut b = o;
+    while a + 1 < end {
+        let x = layer[a];
+        let y = layer[a + 1];
+        out[b] = x;
+        out[b + 1] = y;
+        a += 2;
+        b += 2;
+    }
+    if a < end {
+        out[b] = layer[a];
+    }
+}
+
 // Writes the entry from `at` to the slice from o on, at position p.
 fn put_entry(c: usize, p: u64, at: usize, layer: &[u64], out: &mut [u64], o: usize)
-    requires { ⌜ (at + (c + 2) ≤ length (now layer)) × (o + (c + 2) ≤ length (now out)) ⌝ }
+    requires { ⌜ (at + (c + 2) ≤ length (now layer)) × (o + (c + 2) ≤ length (now out)) × (1 ≤ c) ⌝ }
     ensures { λ _. ⌜ (let e = entryAt c at (now (layer .entry)) in
         Put (p ∷ e .kind ∷ e .vals) (now (out .entry)) o (now (out .exit))) ⌝ }
 {
-    let end = at + (c + 2);
-    run::copy_in(&layer[at..end], out, o);
     out[o] = p;
+    let kind = layer[at + 1];
+    let first = layer[at + 2];
+    out[o + 1] = kind;
+    out[o + 2] = first;
+    copy_pairs(at + 3, at + (c + 2), layer, out, o + 3);
 }
 
 // Makes the changes at p that stand from a cursor on to a row.
@@ -53,47 +78,9 @@ fn patch(c: usize, p: u64, m: usize, w: &[u64], from: Cursor, row: &mut [u64])
     }
 }
 
-// Writes the entry that a turn from the place k leaves behind the m entries that stand in the slice.
-fn put(c: usize, mr: usize, r: &[u64], mw: usize, w: &[u64], k: Place, puts: Puts, out: &mut [u64])
-    requires { ⌜ Leaves c mr (now r) mw (now w) k puts (length (now out)) ⌝ }
-    ensures { λ _. ⌜ Put (flat c (left puts (drop (k .i) (layerOf c mr (now (r .entry))))
-        (drop (k .j) (layerOf c mw (now (w .entry))))))
-        (now (out .entry)) (k .m * (c + 2)) (now (out .exit)) ⌝ }
-{
-    let wide = c + 2;
-    let at = k.i * wide;
-    let bt = k.j * wide;
-    let o = k.m * wide;
-    match puts {
-        Puts::Nothing => {}
-        Puts::AsItIs => {
-            put_entry(c, entry::pos_at(c, at, r), at, r, out, o);
-        }
-        Puts::UpperAt(p) => {
-            put_entry(c, p, bt, w, out, o);
-        }
-        Puts::Changed => {
-            put_entry(c, entry::pos_at(c, at, r), at, r, out, o);
-            let a = o + 2;
-            let e = a + c;
-            patch(
-                c,
-                entry::pos_at(c, bt, w),
-                mw,
-                w,
-                Cursor { i: k.j, at: bt },
-                &mut out[a..e],
-            );
-        }
-        // A change sets its cell, so the upper layer's value stands.
-        Puts::Fused => {
-            put_entry(c, entry::pos_at(c, at, r), bt, w, out, o);
-        }
-    }
-}
-
-// The same where the walk writes, else nothing.
-fn put_if(
+// Writes the entry that a turn from the place k leaves behind the m entries that stand in the slice where the walk writes,
+// else nothing. It asks whether to write once it knows what is left: asked before, the entry would be told apart twice.
+fn put(
     write: bool,
     c: usize,
     mr: usize,
@@ -104,13 +91,48 @@ fn put_if(
     puts: Puts,
     out: &mut [u64],
 )
-    requires { ⌜ (write ≡ true → Leaves c mr (now r) mw (now w) k puts (length (now out))) ⌝ }
+    requires { ⌜ Leaves write c mr (now r) mw (now w) k puts (length (now out)) ⌝ }
     ensures { λ _. ⌜ PutIf write (flat c (left puts (drop (k .i) (layerOf c mr (now (r .entry))))
         (drop (k .j) (layerOf c mw (now (w .entry))))))
         (now (out .entry)) (k .m * (c + 2)) (now (out .exit)) ⌝ }
 {
-    if write {
-        put(c, mr, r, mw, w, k, puts, out);
+    let wide = c + 2;
+    let at = k.i * wide;
+    let bt = k.j * wide;
+    let o = k.m * wide;
+    match puts {
+        Puts::Nothing => {}
+        Puts::AsItIs => {
+            if write {
+                put_entry(c, entry::pos_at(c, at, r), at, r, out, o);
+            }
+        }
+        Puts::UpperAt(p) => {
+            if write {
+                put_entry(c, p, bt, w, out, o);
+            }
+        }
+        Puts::Changed => {
+            if write {
+                put_entry(c, entry::pos_at(c, at, r), at, r, out, o);
+                let a = o + 2;
+                let e = a + c;
+                patch(
+                    c,
+                    entry::pos_at(c, bt, w),
+                    mw,
+                    w,
+                    Cursor { i: k.j, at: bt },
+                    &mut out[a..e],
+                );
+            }
+        }
+        // A change sets its cell, so the upper layer's value stands.
+        Puts::Fused => {
+            if write {
+                put_entry(c, entry::pos_at(c, at, r), bt, w, out, o);
+            }
+        }
     }
 }
 
@@ -152,7 +174,7 @@ pub fn weave(
     while k.j < mw {
         let t = turn::next(c, keys, names, mr, r, mw, w, k);
         let puts = t.puts;
-        put_if(write, c, mr, r, mw, w, k, puts, out);
+        put(write, c, mr, r, mw, w, k, puts, out);
         k = t.to;
     }
     let i = k.i;

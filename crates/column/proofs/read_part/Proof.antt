@@ -17,7 +17,7 @@ use Rattle.entry.specs.declared.Sight.{Sight}
 use Rattle.entry.specs.declared.Sight.the-variants.{End}
 use Rattle.entry.specs.Look.{lookOf}
 use Rattle.entry.proofs.Looks as looks
-use Rattle.column.proofs.Writing.{wrote-none}
+use Rattle.column.proofs.Writing.{pasted-none}
 use Rattle.column.proofs.Going.{
   Going,
   Shows,
@@ -241,7 +241,7 @@ loop-again-5 c =
     let d = changed (c .before) in
     let g = head (turn d) .loop .inv in
     rw (d .next .ensures)
-    (passed g (inside (turn d)) (on-other g (inside (turn d)) (here (c .before)) (c .if2 .left)) (wrote-none _ _))
+    (passed g (inside (turn d)) (on-other g (inside (turn d)) (here (c .before)) (c .if2 .left)) (pasted-none _ _))
 
 -- the rest of the base
 finished : (c : tie.After-slice-known5 Inv-loop μ-loop) →

@@ -6,7 +6,7 @@ use mathlib.Core.Path.{ap, subst}
 use mathlib.Core.List.{List}
 use Prim.Native.Nat.{ℕ}
 use lib.ListN.{length}
-use Rattle.column.specs.Runs.{Wrote}
+use Rattle.column.specs.Runs.{Pasted}
 use Rattle.column.proofs.Writing.{part-slice}
 use Rattle.column.proofs.show_rows.Statement.{statement}
 use Rattle.column.proofs.show_rows.Tie as tie
@@ -36,7 +36,7 @@ returns : tie.Need-returns
 returns c =
     let f = c .before .before .copy-in in
     let a = c .before .before .before .before .before .before .before .args in
-    subst (λ (ys : List ℕ). Wrote ys (a .out .now) (a .o) (f .result) (f .last .1 .0))
+    subst (λ (ys : List ℕ). Pasted ys (a .out .now) (a .o) (f .result) (f .last .1 .0))
     (part-slice (a .s) (a .p) (a .base .now))
     (record { end = f .ensures .0; numbers = f .ensures .1 })
 

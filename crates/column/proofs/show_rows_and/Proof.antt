@@ -5,7 +5,7 @@ use native.Mathlib.Omega.{arith}
 use Prim.Native.Nat.{_<_}
 use lib.ListN.{length}
 use lib.Seq.{slice}
-use Rattle.column.proofs.Writing.{wrote-one}
+use Rattle.column.proofs.Writing.{pasted-one}
 use Rattle.column.proofs.show_rows_and.Statement.{statement}
 use Rattle.column.proofs.show_rows_and.Tie as tie
 
@@ -42,7 +42,7 @@ returns c =
     let b = c .before .before .before .before .before .before in
     let a = b .args in
     let ys = slice (a .s) (a .p) (a .base .now) in
-    wrote-one ys (a .out .now) (f .last .1 .1 .1 .0) (a .o) (f .result) (a .v) (f .ensures) (b .pre .2)
+    pasted-one ys (a .out .now) (f .last .1 .1 .1 .0) (a .o) (f .result) (a .v) (f .ensures) (b .pre .2)
 
 pub show-rows-and-spec : {M : Type 1} → statement M
 show-rows-and-spec =

@@ -8,7 +8,8 @@ use lib.ListN.{length, take}
 use lib.Seq.{take-length}
 use Rattle.text.specs.Text.{Wrote}
 use Rattle.text.proofs.Writing.{wrote-none}
-use Rattle.feed.specs.Input.{anew, readingOf, Took}
+use Rattle.intake.specs.Reading.{readingOf, Took}
+use Rattle.feed.specs.Input.{anew}
 use Rattle.feed.proofs.Feeding.{took-none, took-more, spacious-anew, spacious-on}
 use Rattle.feed.proofs.take_block.Statement.{statement}
 use Rattle.feed.proofs.take_block.Tie as tie

@@ -1,4 +1,4 @@
--- `keys::ascend` meets its contract: four steps along the keys at each turn, and the rest one by one.
+-- `keys::ascend` meets its contract: eight steps along the keys at each turn, and the rest one by one.
 -- Assumes nothing.
 use borrow.Author.Needs.{needs}
 use borrow.Author.Tests.{not-true, not-false}
@@ -29,13 +29,13 @@ loop-holds c =
 sub-loop : tie.Need-sub-loop Inv-loop μ-loop
 sub-loop c = search needs
 
-five-ascend-requires : tie.Need-five-ascend-requires Inv-loop μ-loop
-five-ascend-requires c κs = search needs
+nine-ascend-requires : tie.Need-nine-ascend-requires Inv-loop μ-loop
+nine-ascend-requires c κs = search needs
 
 returns-2 : tie.Need-returns-2 Inv-loop μ-loop
 returns-2 c =
     let l = c .before .before .before in
-    rw (l .loop .inv .1, c .before .five-ascend .ensures, not-true (c .before .five-ascend .result) (c .if2 .taken))
+    rw (l .loop .inv .1, c .before .nine-ascend .ensures, not-true (c .before .nine-ascend .result) (c .if2 .taken))
 
 add-i : tie.Need-add-i Inv-loop μ-loop
 add-i c = search needs
@@ -46,7 +46,7 @@ loop-less c = search needs
 loop-again : tie.Need-loop-again Inv-loop μ-loop
 loop-again c =
     let l = c .before .before .before in
-    (omega arith, l .loop .inv .1 ∙ rw (c .before .five-ascend .ensures, not-false (c .before .five-ascend .result) (c .if2 .left)))
+    (omega arith, l .loop .inv .1 ∙ rw (c .before .nine-ascend .ensures, not-false (c .before .nine-ascend .result) (c .if2 .left)))
 
 ascend-from-requires : tie.Need-ascend-from-requires Inv-loop μ-loop
 ascend-from-requires c κs = search needs
@@ -63,7 +63,7 @@ ascend-spec =
     returns
     loop-holds
     sub-loop
-    five-ascend-requires
+    nine-ascend-requires
     returns-2
     add-i
     loop-less

@@ -5,7 +5,7 @@ use mathlib.Core.Path.{_≡_, ap}
 use Prim.Native.Nat.{ℕ, _+_, _*_, _≤_}
 use lib.ListN.{length, length-replicate}
 use Rattle.text.proofs.Writing.{wrote-within}
-use Rattle.feed.specs.declared.Feed.{Feed}
+use Rattle.intake.specs.declared.Feed.{Feed}
 use Rattle.feed.specs.Input.{Ready}
 use borrow.Author.Needs.{needs}
 use Rattle.blocks.proofs.Blocks.{moved, ready-begun, ready-for, few-lines, still-ready}

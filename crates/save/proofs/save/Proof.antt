@@ -23,8 +23,8 @@ use borrow.Author.Needs.{needs}
 use Rattle.save.proofs.save.Statement.{statement}
 use Rattle.save.proofs.save.Tie as tie
 
-check-requires : tie.Need-check-requires
-check-requires c κs = search needs
+check-layer-requires : tie.Need-check-layer-requires
+check-layer-requires c κs = search needs
 
 enum-known-x : tie.Need-enum-known-x
 enum-known-x c = search needs
@@ -36,7 +36,7 @@ enum-told c = search needs
 formed : (c : tie.After-enum-told) →
     let a = c .before .before .before .before .before .args in
     formAnswer (a .c) (a .n) (a .m) (a .layer .now) ≡ Done (c .enum-told .given .0 .0)
-formed c = sym (c .before .before .check .ensures) ∙ c .enum-told .given .1
+formed c = sym (c .before .before .check-layer .ensures) ∙ c .enum-told .given .1
 
 add-k : tie.Need-add-k
 add-k c = omega (arith, few _ _ _ _ _ (formed c))
@@ -69,7 +69,7 @@ put-trailer-requires c κs = search needs
 
 returns-2 : tie.Need-returns-2
 returns-2 c =
-    let k = c .before .before .before .check in
+    let k = c .before .before .before .check-layer in
     let e = form-refused _ _ _ _ _ _ (sym (k .ensures) ∙ c .before .x .given .1) in
     (e, slice-after _ _ _ _ _ _ e)
 
@@ -94,7 +94,7 @@ pub save-spec : {M : Type 1} → statement M
 save-spec =
     tie.close
     (tie.spec
-    check-requires
+    check-layer-requires
     enum-known-x
     enum-told
     add-k

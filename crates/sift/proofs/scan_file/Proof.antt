@@ -1,7 +1,6 @@
 -- `sift::scan_file` meets its contract: the pass over the bytes is the pass over their numbers.
 -- Assumes nothing.
 use borrow.Author.Needs.{needs}
-use borrow.Author.Tests.{not-true, not-false}
 use native.Mathlib.Omega.{arith}
 use mathlib.Core.Path.{_≡_, sym, _∙_}
 use mathlib.Core.Bool.{_&&_}
@@ -9,7 +8,17 @@ use Prim.Native.Nat.{_+_, _*_, _-_, _≤_}
 use lib.ListN.{length}
 use Rattle.scan.specs.Scan.{goodAfter}
 use Rattle.format.specs.File.{entryIn}
-use Rattle.sift.proofs.Passing.{Passing, begin, room, onward, stop, end}
+use Rattle.sift.proofs.Passing.{
+  last-fails,
+  both-pass,
+  Passing,
+  begin,
+  room,
+  onward,
+  stop,
+  stop-alone,
+  end,
+}
 use Rattle.sift.proofs.scan_file.Statement.{statement}
 use Rattle.sift.proofs.scan_file.Tie as tie
 
@@ -28,16 +37,16 @@ within c = room _ _ _ _ _ (c .before .before .before .pre) (c .before .loop .inv
 
 -- what the two tests of a turn say together
 judged : (c : tie.After-follows Inv-loop μ-loop) →
-    let l = c .before .before .before .before .before in
+    let l = c .before .before .before .before .before .before in
     let a = l .before .before .args in
-    (c .before .alone-good .result && c .follows .result)
+    (c .before .before .alone-good .result && c .follows .result)
     ≡ goodAfter (a .c) (a .n) (l .loop .p) (l .loop .q) (entryIn (a .c) (l .loop .at) (a .file .now))
 judged c =
     rw (
-      c .before .alone-good .ensures,
+      c .before .before .alone-good .ensures,
       c .follows .ensures,
-      c .before .before .before .number-at .ensures,
-      c .before .before .number-at2 .ensures,
+      c .before .before .before .before .number-at .ensures,
+      c .before .before .before .number-at2 .ensures,
     )
 
 loop-holds : tie.Need-loop-holds Inv-loop μ-loop
@@ -55,21 +64,27 @@ number-at-requires-2 c κs = omega (arith, within (c .before))
 alone-good-requires : tie.Need-alone-good-requires Inv-loop μ-loop
 alone-good-requires c κs = within (c .before .before)
 
+returns : tie.Need-returns Inv-loop μ-loop
+returns c =
+    let t = c .before .before .before .before in
+    stop-alone _ _ _ _ _ (t .before .before .before .pre) (t .before .loop .inv) (t .loop-test .taken)
+    (c .before .alone-good .result) (c .before .alone-good .ensures) (c .if1 .taken)
+
 follows-requires : tie.Need-follows-requires Inv-loop μ-loop
 follows-requires c κs = search needs
 
-returns : tie.Need-returns Inv-loop μ-loop
-returns c =
-    let t = c .before .before .before .before .before in
+returns-2 : tie.Need-returns-2 Inv-loop μ-loop
+returns-2 c =
+    let t = c .before .before .before .before .before .before in
     stop _ _ _ _ _ (t .before .before .before .pre) (t .before .loop .inv) (t .loop-test .taken)
-    (sym (judged (c .before)) ∙ not-true _ (c .if1 .taken))
+    (sym (judged (c .before)) ∙ last-fails (c .before .before .before .alone-good .result) (c .before .follows .result) (c .if2 .taken))
 
 one-if-requires : tie.Need-one-if-requires Inv-loop μ-loop
 one-if-requires c κs = search needs
 
 add-adds : tie.Need-add-adds Inv-loop μ-loop
 add-adds c =
-    let t = c .before .before .before .before .before .before in
+    let t = c .before .before .before .before .before .before .before in
     omega (
       arith,
       c .one-if .ensures .1,
@@ -83,7 +98,7 @@ one-if-requires-2 c κs = search needs
 
 add-strikes : tie.Need-add-strikes Inv-loop μ-loop
 add-strikes c =
-    let t = c .before .before .before .before .before .before .before in
+    let t = c .before .before .before .before .before .before .before .before in
     omega (
       arith,
       c .one-if2 .ensures .1,
@@ -96,10 +111,10 @@ add-at : tie.Need-add-at Inv-loop μ-loop
 add-at c = search needs
 
 mul-at : tie.Need-mul-at Inv-loop μ-loop
-mul-at c = omega (arith, within (c .before .before .before .before .before .before .before))
+mul-at c = omega (arith, within (c .before .before .before .before .before .before .before .before))
 
 add-at-2 : tie.Need-add-at-2 Inv-loop μ-loop
-add-at-2 c = omega (arith, within (c .before .before .before .before .before .before .before))
+add-at-2 c = omega (arith, within (c .before .before .before .before .before .before .before .before))
 
 add-i : tie.Need-add-i Inv-loop μ-loop
 add-i c = search needs
@@ -110,18 +125,19 @@ loop-less c = search needs
 loop-again : tie.Need-loop-again Inv-loop μ-loop
 loop-again c =
     let f = c .before .before .before in
-    let t = f .before .before .before .before in
+    let t = f .before .before .before .before .before in
     rw (
       c .before .one-if .ensures .0,
       c .one-if2 .ensures .0,
-      f .before .before .before .number-at .ensures,
-      f .before .before .number-at2 .ensures,
+      f .before .before .before .before .number-at .ensures,
+      f .before .before .before .number-at2 .ensures,
     )
     (onward _ _ _ _ _ (t .before .before .before .pre) (t .before .loop .inv) (t .loop-test .taken)
-    (sym (judged f) ∙ not-false _ (c .before .before .if1 .left)))
+    (sym (judged f)
+    ∙ both-pass (f .before .before .alone-good .result) (f .follows .result) (f .before .if1 .left) (c .before .before .if2 .left)))
 
-returns-2 : tie.Need-returns-2 Inv-loop μ-loop
-returns-2 c = end _ _ _ _ _ (c .before .before .before .pre) (c .before .loop .inv) (c .loop-test .left)
+returns-3 : tie.Need-returns-3 Inv-loop μ-loop
+returns-3 c = end _ _ _ _ _ (c .before .before .before .pre) (c .before .loop .inv) (c .loop-test .left)
 
 pub scan-file-spec : {M : Type 1} → statement M
 scan-file-spec =
@@ -134,8 +150,9 @@ scan-file-spec =
     add-number-at
     number-at-requires-2
     alone-good-requires
-    follows-requires
     returns
+    follows-requires
+    returns-2
     one-if-requires
     add-adds
     one-if-requires-2
@@ -146,4 +163,4 @@ scan-file-spec =
     add-i
     loop-less
     loop-again
-    returns-2)
+    returns-3)

@@ -1,8 +1,10 @@
--- `weave::put` meets its contract: the entry that the turn leaves is copied, at its position or with changes made to it.
+-- `weave::put` meets its contract: where the walk writes, the entry that the turn leaves is copied, at its position or with
+-- changes made to it.
 -- Assumes nothing.
 use borrow.Author.Needs.{needs}
 use native.Mathlib.Omega.{arith}
-use mathlib.Core.Path.{_≡_, sym, ap, subst, _∙_}
+use mathlib.Core.Path.{_≡_, refl, sym, ap, subst, _∙_}
+use mathlib.Core.Bool.{true, false}
 use mathlib.Core.List.{List, [], _∷_}
 use Prim.Native.Nat.{ℕ, _+_, _*_, _-_, _≤_}
 use lib.ListN.{length, take, drop}
@@ -15,13 +17,14 @@ use Rattle.turn.specs.declared.Puts.{Puts}
 use Rattle.turn.specs.declared.Puts.the-variants.{Nothing, AsItIs, UpperAt, Changed, Fused}
 use Rattle.turn.specs.Turn.{left}
 use Rattle.woven.specs.Woven.{patched}
-use Rattle.weave.specs.Written.{Put, Row, Leaves}
+use Rattle.weave.specs.Written.{Put, PutIf, Row, Leaves}
 use Rattle.weave.proofs.Patching.{patched-length}
-use Rattle.weave.proofs.Buffer.{put-none, values-part, put-values}
+use Rattle.weave.proofs.Buffer.{put-none, put-wrote, put-kept, values-part, put-values}
 use Rattle.weave.proofs.Putting.{
   low,
   lower-off,
   upper-off,
+  offset,
   row,
   lower-room,
   lower-put,
@@ -57,20 +60,31 @@ module _ (c : tie.After-struct-known3) where
   len = length (s .args .out .now)
 
   leaves : (p : Puts) → s .args .puts ≡ p
-      → let a = s .args in Leaves (a .c) (a .mr) (a .r .now) (a .mw) (a .w .now) (a .k) p len
+      → let a = s .args in Leaves (a .write) (a .c) (a .mr) (a .r .now) (a .mw) (a .w .now) (a .k) p len
   leaves p e =
       let a = s .args in
-      subst (λ (q : Puts). Leaves (a .c) (a .mr) (a .r .now) (a .mw) (a .w .now) (a .k) q len) e (s .pre)
+      subst (λ (q : Puts). Leaves (a .write) (a .c) (a .mr) (a .r .now) (a .mw) (a .w .now) (a .k) q len) e (s .pre)
+
+  -- what the turn leaves, and what is to be shown of the slice
+  abbrev entry : List ℕ
+  entry = flat (s .args .c) (left (s .args .puts) (drop (s .args .k .i) R) (drop (s .args .k .j) W))
+
+  abbrev Shown : List ℕ → Type 0
+  Shown new = PutIf (s .args .write) entry (s .args .out .now) (s .args .k .m * (s .args .c + 2)) new
 
   -- what is written is what it leaves
-  shows : (p : Puts) → s .args .puts ≡ p → (ys new : List ℕ)
+  shows : s .args .write ≡ true → (p : Puts) → s .args .puts ≡ p → (ys new : List ℕ)
       → flat (s .args .c) (left p (drop (s .args .k .i) R) (drop (s .args .k .j) W)) ≡ ys
       → Put ys (s .args .out .now) (s .args .k .m * (s .args .c + 2)) new
-      → Put (flat (s .args .c) (left (s .args .puts) (drop (s .args .k .i) R) (drop (s .args .k .j) W))) (s .args .out .now)
-      (s .args .k .m * (s .args .c + 2)) new
-  shows p e ys new n q =
-      subst (λ (zs : List ℕ). Put zs (s .args .out .now) (s .args .k .m * (s .args .c + 2)) new)
-      (sym (ap (λ (x : Puts). flat (s .args .c) (left x (drop (s .args .k .i) R) (drop (s .args .k .j) W))) e ∙ n)) q
+      → Shown new
+  shows h p e ys new n q =
+      put-wrote (s .args .write) entry (s .args .out .now) (s .args .k .m * (s .args .c + 2)) new h
+      (subst (λ (zs : List ℕ). Put zs (s .args .out .now) (s .args .k .m * (s .args .c + 2)) new)
+      (sym (ap (λ (x : Puts). flat (s .args .c) (left x (drop (s .args .k .i) R) (drop (s .args .k .j) W))) e ∙ n)) q)
+
+  -- where the walk does not write, all stays
+  stays : s .args .write ≡ false → Shown (s .args .out .now)
+  stays = put-kept (s .args .write) entry (s .args .out .now) (s .args .k .m * (s .args .c + 2))
 
 add-wide : tie.Need-add-wide
 add-wide c = omega (arith, low (c .before .before .before .pre) .held .columns)
@@ -82,7 +96,7 @@ mul-bt : tie.Need-mul-bt
 mul-bt c = omega (arith, upper-off (c .before .before .before .before .before .pre))
 
 mul-o : tie.Need-mul-o
-mul-o c = search needs
+mul-o c = omega (arith, offset (s c .pre))
 
 enum-told : tie.Need-enum-told
 enum-told c = search needs
@@ -95,31 +109,37 @@ module _ (c : tie.After-enum-told2) where
   abbrev d : tie.After-struct-known3
   d = c .before .before
 
-  as-is : let a = s d .args in Leaves (a .c) (a .mr) (a .r .now) (a .mw) (a .w .now) (a .k) AsItIs (len d)
+  as-is : let a = s d .args in Leaves (a .write) (a .c) (a .mr) (a .r .now) (a .mw) (a .w .now) (a .k) AsItIs (len d)
   as-is = leaves d AsItIs (c .enum-told2 .given .1)
 
 pos-at-requires : tie.Need-pos-at-requires
-pos-at-requires c κs = lower-room _ _ _ _ _ _ _ (as-is c)
+pos-at-requires c κs = lower-room _ _ _ _ _ _ _ _ (as-is (c .before))
 
 put-entry-requires : tie.Need-put-entry-requires
 put-entry-requires c κs =
-    let g = as-is (c .before .before) in (lower-room _ _ _ _ _ _ _ g, lower-put _ _ _ _ _ _ _ g .space)
+    let n = c .before .before in
+    let g = as-is (n .before) in
+    (lower-room _ _ _ _ _ _ _ _ g, lower-put _ _ _ _ _ _ _ _ g .space (n .if1 .taken), low g .held .some)
 
 returns-2 : tie.Need-returns-2
 returns-2 c =
     let t = c .before .before in
     let p = t .before .before in
-    let e = p .before in
+    let n = p .before in
+    let e = n .before in
     let b = d e in
     let x = E b in
     let f = t .put-entry in
-    shows b AsItIs (e .enum-told2 .given .1) (x .pos ∷ x .kind ∷ x .vals) (f .last .1 .1 .1 .1 .0)
-    (lower-put _ _ _ _ _ _ _ (as-is e) .numbers)
+    shows b (n .if1 .taken) AsItIs (e .enum-told2 .given .1) (x .pos ∷ x .kind ∷ x .vals) (f .last .1 .1 .1 .1 .0)
+    (lower-put _ _ _ _ _ _ _ _ (as-is e) .numbers)
     (subst (λ (n : ℕ). Put (n ∷ x .kind ∷ x .vals) (s b .args .out .now) (s b .args .k .m * (s b .args .c + 2))
     (f .last .1 .1 .1 .1 .0)) (p .pos-at .ensures) (f .ensures))
 
 same-length : tie.Need-same-length
 same-length c = search needs
+
+returns-3 : tie.Need-returns-3
+returns-3 c = stays (d (c .before)) (c .if1 .left)
 
 -- the upper layer's at a position
 enum-known-puts : tie.Need-enum-known-puts
@@ -130,24 +150,30 @@ module _ (c : tie.After-puts) where
   h = c .before .before
 
   at-p : let a = s h .args in
-      Leaves (a .c) (a .mr) (a .r .now) (a .mw) (a .w .now) (a .k) (UpperAt (c .puts .given .0 .0)) (len h)
+      Leaves (a .write) (a .c) (a .mr) (a .r .now) (a .mw) (a .w .now) (a .k) (UpperAt (c .puts .given .0 .0)) (len h)
   at-p = leaves h (UpperAt (c .puts .given .0 .0)) (c .puts .given .1)
 
 put-entry-requires-2 : tie.Need-put-entry-requires-2
 put-entry-requires-2 c κs =
-    let g = at-p (c .before .before) in (upper-room _ _ _ _ _ _ _ _ g, upper-put _ _ _ _ _ _ _ _ g .space)
+    let n = c .before in
+    let g = at-p (n .before .before) in
+    (upper-room _ _ _ _ _ _ _ _ _ g, upper-put _ _ _ _ _ _ _ _ _ g .space (n .if2 .taken), low g .held .some)
 
-returns-3 : tie.Need-returns-3
-returns-3 c =
+returns-4 : tie.Need-returns-4
+returns-4 c =
     let t = c .before .before in
-    let u = t .before .before .before in
+    let n = t .before .before in
+    let u = n .before .before in
     let x = F (h u) in
     let p = u .puts .given .0 .0 in
-    shows (h u) (UpperAt p) (u .puts .given .1) (p ∷ x .kind ∷ x .vals) (t .put-entry2 .last .1 .1 .1 .1 .0)
-    (upper-put _ _ _ _ _ _ _ _ (at-p u) .numbers) (t .put-entry2 .ensures)
+    shows (h u) (n .if2 .taken) (UpperAt p) (u .puts .given .1) (p ∷ x .kind ∷ x .vals) (t .put-entry2 .last .1 .1 .1 .1 .0)
+    (upper-put _ _ _ _ _ _ _ _ _ (at-p u) .numbers) (t .put-entry2 .ensures)
 
 same-length-2 : tie.Need-same-length-2
 same-length-2 c = search needs
+
+returns-5 : tie.Need-returns-5
+returns-5 c = stays (h (c .before .before)) (c .if2 .left)
 
 -- the lower layer's added row with the upper's changes
 enum-told-3 : tie.Need-enum-told-3
@@ -157,20 +183,25 @@ module _ (c : tie.After-enum-told3) where
   abbrev b : tie.After-struct-known3
   b = c .before .before
 
-  changed : let a = s b .args in Leaves (a .c) (a .mr) (a .r .now) (a .mw) (a .w .now) (a .k) Changed (len b)
+  changed : let a = s b .args in Leaves (a .write) (a .c) (a .mr) (a .r .now) (a .mw) (a .w .now) (a .k) Changed (len b)
   changed = leaves b Changed (c .enum-told3 .given .1)
 
 pos-at-requires-2 : tie.Need-pos-at-requires-2
-pos-at-requires-2 c κs = both-room _ _ _ _ _ _ _ (changed c) .0
+pos-at-requires-2 c κs = both-room _ _ _ _ _ _ _ _ (changed (c .before)) .0
 
 put-entry-requires-3 : tie.Need-put-entry-requires-3
 put-entry-requires-3 c κs =
-    let g = changed (c .before .before) in (both-room _ _ _ _ _ _ _ g .0, changed-put _ _ _ _ _ _ _ g .space)
+    let n = c .before .before in
+    let g = changed (n .before) in
+    (both-room _ _ _ _ _ _ _ _ g .0, changed-put _ _ _ _ _ _ _ _ g .space (n .if3 .taken), low g .held .some)
 
 -- the row is written, and its values are lent
 module _ (c : tie.After-slice-known4) where
+  abbrev n : tie.Then3
+  n = c .before .before .before .before .before
+
   abbrev e : tie.After-enum-told3
-  e = c .before .before .before .before .before
+  e = n .before
 
   abbrev x : Entry
   x = E (b e)
@@ -182,10 +213,10 @@ module _ (c : tie.After-slice-known4) where
   mid = c .before .before .put-entry3 .last .1 .1 .1 .1 .0
 
   vals : length (x .vals) ≡ s (b e) .args .c
-  vals = let a = s (b e) .args in vals-length (a .c) (a .k .i * (a .c + 2)) (a .r .now) (both-room _ _ _ _ _ _ _ (changed e) .0)
+  vals = let a = s (b e) .args in vals-length (a .c) (a .k .i * (a .c + 2)) (a .r .now) (both-room _ _ _ _ _ _ _ _ (changed e) .0)
 
   space : o + (s (b e) .args .c + 2) ≤ length (s (b e) .args .out .now)
-  space = changed-put _ _ _ _ _ _ _ (changed e) .space
+  space = changed-put _ _ _ _ _ _ _ _ (changed e) .space (n .if3 .taken)
 
   size : length mid ≡ length (s (b e) .args .out .now)
   size = c .before .before .put-entry3 .ensures .size
@@ -201,16 +232,16 @@ module _ (c : tie.After-slice-known4) where
       values-part (a .c) (x .pos) (x .kind) o (x .vals) (x .vals) (a .out .now) mid (a .out .now) first vals space
 
 add-a : tie.Need-add-a
-add-a c = search needs
+add-a c = omega (arith, space c, s (b (e c)) .good)
 
 add-e : tie.Need-add-e
 add-e c = omega (arith, space c, s (b (e c)) .good)
 
 pos-at-requires-3 : tie.Need-pos-at-requires-3
-pos-at-requires-3 c κs = both-room _ _ _ _ _ _ _ (changed (e c)) .1
+pos-at-requires-3 c κs = both-room _ _ _ _ _ _ _ _ (changed (e c)) .1
 
 mul-patch : tie.Need-mul-patch
-mul-patch c = search needs
+mul-patch c = omega (arith, space (c .before), s (b (e (c .before))) .good)
 
 sub-patch : tie.Need-sub-patch
 sub-patch c = search needs
@@ -228,8 +259,8 @@ patch-requires c κs =
     subst (λ (n : ℕ). Row (a .c) (a .mw) (a .w .now) (record { i = a .k .j; at = a .k .j * (a .c + 2) }) n)
     (sym (ap length (lent q) ∙ vals q)) (row (changed (e q)))
 
-returns-4 : tie.Need-returns-4
-returns-4 c =
+returns-6 : tie.Need-returns-6
+returns-6 c =
     let f = c .before .before in
     let p = f .before .before in
     let q = p .before in
@@ -238,8 +269,8 @@ returns-4 c =
     let y = patched (F d .pos) (drop (a .k .j) (W d)) (x q .vals) in
     let m = a .c in
     let new = putMid (o q + 2) (o q + 2 + m - (o q + 2)) (mid q) (f .patch .last .1 .1 .1 .1 .1 .0) in
-    shows d Changed (e q .enum-told3 .given .1) (x q .pos ∷ x q .kind ∷ y) new
-    (changed-put _ _ _ _ _ _ _ (changed (e q)) .numbers)
+    shows d (n q .if3 .taken) Changed (e q .enum-told3 .given .1) (x q .pos ∷ x q .kind ∷ y) new
+    (changed-put _ _ _ _ _ _ _ _ (changed (e q)) .numbers)
     (put-values m (x q .pos) (x q .kind) (o q) (x q .vals) y (a .out .now) (mid q) new (first q) (vals q) (space q)
     (patched-length (F d .pos) (drop (a .k .j) (W d)) (x q .vals) ∙ vals q)
     (ap (putMid (o q + 2) (o q + 2 + m - (o q + 2)) (mid q))
@@ -247,6 +278,9 @@ returns-4 c =
 
 same-length-3 : tie.Need-same-length-3
 same-length-3 c = search needs
+
+returns-7 : tie.Need-returns-7
+returns-7 c = stays (b (c .before)) (c .if3 .left)
 
 -- the upper layer's change over the lower's
 enum-told-4 : tie.Need-enum-told-4
@@ -256,38 +290,50 @@ module _ (c : tie.After-enum-told4) where
   abbrev y : tie.After-struct-known3
   y = c .before .before
 
-  fuses : let a = s y .args in Leaves (a .c) (a .mr) (a .r .now) (a .mw) (a .w .now) (a .k) Fused (len y)
+  fuses : let a = s y .args in Leaves (a .write) (a .c) (a .mr) (a .r .now) (a .mw) (a .w .now) (a .k) Fused (len y)
   fuses = leaves y Fused (c .enum-told4 .given .1)
 
 pos-at-requires-4 : tie.Need-pos-at-requires-4
-pos-at-requires-4 c κs = fused-room _ _ _ _ _ _ _ (fuses c) .0
+pos-at-requires-4 c κs = fused-room _ _ _ _ _ _ _ _ (fuses (c .before)) .0
 
 put-entry-requires-4 : tie.Need-put-entry-requires-4
 put-entry-requires-4 c κs =
-    let g = fuses (c .before .before) in (fused-room _ _ _ _ _ _ _ g .1, fused-put _ _ _ _ _ _ _ g .space)
+    let n = c .before .before in
+    let g = fuses (n .before) in
+    (fused-room _ _ _ _ _ _ _ _ g .1, fused-put _ _ _ _ _ _ _ _ g .space (n .if4 .taken), low g .held .some)
 
-returns-5 : tie.Need-returns-5
-returns-5 c =
+returns-8 : tie.Need-returns-8
+returns-8 c =
     let t = c .before .before in
     let p = t .before .before in
-    let q = p .before in
+    let n = p .before in
+    let q = n .before in
     let h = y q in
     let z = F h in
     let f = t .put-entry4 in
-    shows h Fused (q .enum-told4 .given .1) (E h .pos ∷ z .kind ∷ z .vals) (f .last .1 .1 .1 .1 .0)
-    (fused-put _ _ _ _ _ _ _ (fuses q) .numbers)
+    shows h (n .if4 .taken) Fused (q .enum-told4 .given .1) (E h .pos ∷ z .kind ∷ z .vals) (f .last .1 .1 .1 .1 .0)
+    (fused-put _ _ _ _ _ _ _ _ (fuses q) .numbers)
     (subst (λ (n : ℕ). Put (n ∷ z .kind ∷ z .vals) (s h .args .out .now) (s h .args .k .m * (s h .args .c + 2))
     (f .last .1 .1 .1 .1 .0)) (p .pos-at4 .ensures) (f .ensures))
 
 same-length-4 : tie.Need-same-length-4
 same-length-4 c = search needs
 
+returns-9 : tie.Need-returns-9
+returns-9 c = stays (y (c .before)) (c .if4 .left)
+
 returns : tie.Need-returns
 returns c =
     let d = c .before .before in
     let a = s d .args in
-    shows d Nothing (c .enum-told .given .1) [] (a .out .now) (flat-none (a .c))
-    (put-none (a .out .now) (a .k .m * (a .c + 2)))
+    let left-none : entry d ≡ [] =
+    ap (λ (x : Puts). flat (a .c) (left x (drop (a .k .i) (R d)) (drop (a .k .j) (W d)))) (c .enum-told .given .1)
+    ∙ flat-none (a .c) in
+    record {
+      wrote = λ _. subst (λ (zs : List ℕ). Put zs (a .out .now) (a .k .m * (a .c + 2)) (a .out .now)) (sym left-none)
+          (put-none (a .out .now) (a .k .m * (a .c + 2)));
+      kept = λ _. refl;
+    }
 
 pub put-spec : {M : Type 1} → statement M
 put-spec =
@@ -320,9 +366,13 @@ put-spec =
     returns
     same-length
     returns-2
-    same-length-2
     returns-3
-    same-length-3
+    same-length-2
     returns-4
+    returns-5
+    same-length-3
+    returns-6
+    returns-7
     same-length-4
-    returns-5)
+    returns-8
+    returns-9)

@@ -3,12 +3,10 @@
 use borrow.Author.Needs.{needs}
 use native.Mathlib.Omega.{arith}
 use native.Mathlib.Nat.{mul-le-mul-right}
-use mathlib.Core.Path.{refl}
 use Prim.Native.Nat.{_+_, _*_, _-_, _≤_}
 use lib.ListN.{take, drop}
-use Rattle.order.proofs.Tests.{impossible}
 use Rattle.theory.proofs.Raw as raw
-use Rattle.weave.proofs.Buffer.{put-paste}
+use Rattle.weave.proofs.Buffer.{put-wrote, put-kept, put-paste}
 use Rattle.weave.proofs.rest_if.Statement.{statement}
 use Rattle.weave.proofs.rest_if.Tie as tie
 
@@ -60,14 +58,12 @@ returns c =
     let s = t .before .before .before in
     let a = s .args in
     let f = c .before .before .copy-in in
-    record {
-      wrote = λ _. put-paste (take (a .mr * (a .c + 2) - a .i * (a .c + 2)) (drop (a .i * (a .c + 2)) (a .r .now)))
-          (a .out .now) (f .last .1 .0) (a .m * (a .c + 2)) (s .pre .room (t .if1 .taken)) (f .ensures .1);
-      kept = λ h. let w = t .if1 .taken in impossible (cc);
-    }
+    put-wrote (a .write) _ (a .out .now) (a .m * (a .c + 2)) (f .last .1 .0) (t .if1 .taken)
+    (put-paste (take (a .mr * (a .c + 2) - a .i * (a .c + 2)) (drop (a .i * (a .c + 2)) (a .r .now)))
+    (a .out .now) (f .last .1 .0) (a .m * (a .c + 2)) (s .pre .room (t .if1 .taken)) (f .ensures .1))
 
 returns-2 : tie.Need-returns-2
-returns-2 c = record { wrote = λ h. let w = c .if1 .left in impossible (cc); kept = λ _. refl }
+returns-2 c = put-kept _ _ _ _ (c .if1 .left)
 
 pub rest-if-spec : {M : Type 1} → statement M
 rest-if-spec =

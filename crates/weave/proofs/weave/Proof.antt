@@ -55,10 +55,10 @@ module _ (c : tie.After-next Inv-loop μ-loop) where
   turned =
       next-of (l .loop .inv .walked) (omega (arith, c .before .if1 .taken, upper-length l)) (c .next .result) (c .next .ensures)
 
-  leaves : s l .args .write ≡ true →
-      let a = s l .args in
-      Leaves (a .c) (a .mr) (a .r .now) (a .mw) (a .w .now) (l .loop .k) (c .next .result .puts) (length (l .loop .out))
-  leaves h =
+  leaves : let a = s l .args in
+      Leaves (a .write) (a .c) (a .mr) (a .r .now) (a .mw) (a .w .now) (l .loop .k) (c .next .result .puts)
+      (length (l .loop .out))
+  leaves =
       let b = s l .pre .0 in
       let g = l .loop .inv in
       record {
@@ -66,12 +66,13 @@ module _ (c : tie.After-next Inv-loop μ-loop) where
         upper = record { over = _; rows = _; form = b .upper };
         lower-upto = omega (arith, g .walked .lower-upto, lower-length l);
         upper-upto = omega (arith, g .walked .upper-upto, upper-length l);
+        few = small b (g .walked) .2;
         takes = turned .takes;
-        room = room-for (s l .pre .1 h) (g .wrote h) turned;
+        room = λ h. room-for (s l .pre .1 h) (g .wrote h) turned;
       }
 
-put-if-requires : tie.Need-put-if-requires Inv-loop μ-loop
-put-if-requires c κs = leaves (c .before)
+put-requires : tie.Need-put-requires Inv-loop μ-loop
+put-requires c κs = leaves (c .before)
 
 loop-less : tie.Need-loop-less Inv-loop μ-loop
 loop-less c =
@@ -83,8 +84,8 @@ loop-again : tie.Need-loop-again Inv-loop μ-loop
 loop-again c =
     let p = c .before .before .before in
     let t = p .before .before in
-    go-on (s (l t) .pre .1) (l t .loop .inv) (turned t) _ (λ h. left-wide (t .next .result .puts) (leaves t h))
-    (p .put-if .ensures)
+    go-on (s (l t) .pre .1) (l t .loop .inv) (turned t) _ (left-wide (t .next .result .puts) (leaves t))
+    (p .put .ensures)
 
 -- after the loop
 module _ (c : tie.At-loop Inv-loop μ-loop) where
@@ -134,7 +135,7 @@ weave-spec =
     first-requires
     loop-holds
     next-requires
-    put-if-requires
+    put-requires
     loop-less
     loop-again
     rest-if-requires
