@@ -78,5 +78,18 @@ int main(void) {
     m3 = a.value;
     a = kw_move(C, group, N, m3, late, ROOM, 1, first, ROOM);
     say("late desk strikes a changed group", a);
+
+    /* Two desks answer one phone call: to one value both pass, and one entry is left; to another value the second is refused. */
+    uint64_t same[ROOM] = {0}, other[ROOM] = {0};
+    kw_change(C, 0, same, ROOM, group, N, 2, 2, 1);
+    kw_change(C, 0, other, ROOM, group, N, 2, 2, 6);
+    a = kw_move(C, group, N, 1, same, ROOM, 1, first, ROOM);
+    say("two desks set mask 1 of group 30", a);
+    if (a.number)
+        return 1;
+    a = kw_combine(C, group, N, 1, first, ROOM, 1, same, ROOM, both, 2 * ROOM);
+    say("their layers combined", a);
+    a = kw_move(C, group, N, 1, other, ROOM, 1, first, ROOM);
+    say("a third desk sets mask 6", a);
     return 0;
 }

@@ -24,7 +24,8 @@
  *      5  row number not below the shown rows
  *      6  change of column 0
  *      7  key is shown already
- *      8  conflict                  place: the lowest entry of X in any conflict
+ *      8  conflict: one strikes a row that the other strikes or changes, both change one cell to different values, or both
+ *         add one key               place: the lowest entry of X in any conflict
  *      9  the result needs more entries than the room
  *     10  the result passes 4,096 rows
  *     11  buffer shorter than what is to be written
@@ -109,8 +110,8 @@ struct kw_answer kw_change(size_t c, size_t m, uint64_t *layer, size_t layer_len
 struct kw_answer kw_combine(size_t c, const uint64_t *keys, size_t n, size_t mr, const uint64_t *r, size_t r_len, size_t mw,
                             const uint64_t *w, size_t w_len, uint64_t *out, size_t out_len);
 
-/* Moves x past y, both over the same rows: x then stands over y's result. Only x's positions change. Refusals 1 2 3 4 8 10.
- * value: m of x. */
+/* Moves x past y, both over the same rows: x then stands over y's result. Only x's positions change. Two changes of one
+ * cell to one value pass each other, and combining then leaves one. Refusals 1 2 3 4 8 10. value: m of x. */
 struct kw_answer kw_move(size_t c, const uint64_t *keys, size_t n, size_t mx, uint64_t *x, size_t x_len, size_t my,
                          const uint64_t *y, size_t y_len);
 

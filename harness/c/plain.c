@@ -350,7 +350,7 @@ static bool before(const uint64_t *d, const uint64_t *e) {
 static bool clash(const uint64_t *d, const uint64_t *e) {
     if (d[1] == KW_ADD || e[1] == KW_ADD)
         return d[1] == e[1] && d[2] == e[2];
-    return d[0] == e[0] && (d[1] == KW_STRIKE || e[1] == KW_STRIKE || d[1] == e[1]);
+    return d[0] == e[0] && (d[1] == KW_STRIKE || e[1] == KW_STRIKE || (d[1] == e[1] && d[2] != e[2]));
 }
 
 answer plain_move(size_t c, const uint64_t *keys, size_t n, size_t mx, uint64_t *x, size_t x_len, size_t my, const uint64_t *y,

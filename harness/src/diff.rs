@@ -27,14 +27,20 @@ pub struct Report {
     pub met: [[u64; 12]; 11],
     pub both_orders: u64,
     pub combined: u64,
+    /// Cells that both layers of an accepted move set to one value, and layers with entries that passed themselves.
+    pub one_value: u64,
+    pub past_itself: u64,
 }
 
 impl Report {
     pub fn calls(&self) -> u64 {
         self.met.iter().flatten().sum()
     }
-    /// A refusal that a call can meet and never met.
+    /// An answer that a call can give and never gave.
     pub fn missing(&self) -> Option<(&'static str, usize)> {
+        if self.one_value == 0 || self.past_itself == 0 {
+            return Some(("move past an equal change", 0));
+        }
         for (i, numbers) in MEETS.iter().enumerate() {
             if self.met[i][0] == 0 {
                 return Some((CALLS[i], 0));
@@ -53,6 +59,7 @@ impl Report {
             println!("{name:>8} {}", self.met[i].iter().map(|k| format!("{k:>9}")).collect::<String>());
         }
         println!("calls {}, both orders compared {}, combinations read back {}", self.calls(), self.both_orders, self.combined);
+        println!("cells set to one value by both {}, layers past themselves {}", self.one_value, self.past_itself);
     }
 }
 
@@ -170,6 +177,17 @@ fn long_layer(rng: &mut Rng, c: usize, keys: &[u64], m: usize, grow: bool, side:
     layer
 }
 
+/// Changes of y whose cell x changes too mostly take x's value.
+fn agree(rng: &mut Rng, x: &[Entry], y: &mut [Entry]) {
+    for f in y.iter_mut().filter(|f| f.is_change()) {
+        if let Some(e) = x.iter().find(|e| e.pos == f.pos && e.kind == f.kind) {
+            if !rng.one_in(16) {
+                f.vals = e.vals.clone();
+            }
+        }
+    }
+}
+
 fn slice_of(rng: &mut Rng, c: usize, layer: &[Entry]) -> Vec<u64> {
     let mut raw = scope::numbers(layer);
     let spare = if rng.one_in(3) { 0 } else { rng.below(3 * (c + 2)) };
@@ -187,7 +205,10 @@ fn small(rng: &mut Rng) -> Case {
     let rows: Vec<Vec<u64>> = keys.iter().map(|k| row(rng, c, *k)).collect();
     let (a, b, d) = (rng.below(9), rng.below(9), rng.below(9));
     let x = good_layer(rng, c, &keys, a, wide);
-    let y = good_layer(rng, c, &keys, b, wide);
+    let mut y = good_layer(rng, c, &keys, b, wide);
+    if rng.one_in(2) {
+        agree(rng, &x, &mut y);
+    }
     let w = good_layer(rng, c, &scope::column(&x, &keys, 0), d, wide);
     Case {
         c,
@@ -211,7 +232,12 @@ fn large(rng: &mut Rng, m: usize) -> Case {
     let grow = rng.one_in(2);
     let apart = rng.one_in(2);
     let x = long_layer(rng, c, &keys, m, grow, if apart { 0 } else { 2 });
-    let y = long_layer(rng, c, &keys, m, grow, if apart { 1 } else { 2 });
+    let mut y = long_layer(rng, c, &keys, m, grow, if apart { 1 } else { 2 });
+    if !apart && rng.one_in(2) {
+        // changes alone, mostly of x's cells
+        y = x.iter().filter(|e| e.is_change()).cloned().collect();
+    }
+    agree(rng, &x, &mut y);
     let between = scope::column(&x, &keys, 0);
     let w = long_layer(rng, c, &between, m / 2, grow, 2);
     Case {
@@ -390,6 +416,32 @@ fn try_all(rng: &mut Rng, case: &Case, report: &mut Report) {
         t.alike("the one order", 10, &[], &first, &second);
         let done = scope::table(&scope::entries(c, case.my, other), &case.rows);
         t.alike("read after the move", 10, &[], &first, &scope::redone(keys, &scope::entries(c, m, layer), &done));
+        // combined into theirs: a cell that both set to one value has one entry
+        let mut master = vec![0; 512 * (c + 2)];
+        let (number, k) = CARD.combine(c, keys, case.my, other, m, &past, &mut master);
+        if number == 0 {
+            t.alike("read through theirs and mine", 9, &[], &read_table(c, k as usize, &master, &case.rows), &first);
+            let all = scope::entries(c, k as usize, &master);
+            let theirs = scope::entries(c, case.my, other);
+            for e in scope::entries(c, m, layer).iter().filter(|e| e.is_change() && theirs.contains(e)) {
+                t.report.one_value += 1;
+                let kept: Vec<&Entry> = all.iter().filter(|f| f.pos == e.pos && f.kind == e.kind).collect();
+                t.alike("one entry for the cell", 9, &[], &kept, &vec![e]);
+            }
+        }
+    }
+    // X past itself: refused at its first add or strike, else accepted and as it was
+    if fit.0 == 0 {
+        let mine = scope::entries(c, m, layer);
+        let want = match mine.iter().position(|e| !e.is_change()) {
+            Some(p) => (8, p as u64),
+            None => (0, m as u64),
+        };
+        let mut copy = layer.to_vec();
+        let got = CARD.move_past(c, keys, m, &mut copy, m, layer);
+        t.alike("past itself", 10, &[], &got, &want);
+        t.alike("left by itself", 10, &[], &&copy[..], &layer);
+        t.report.past_itself += u64::from(got.0 == 0 && m > 0);
     }
     for (slice, was) in lent.iter().zip([&case.layer, &case.keys, &case.other, &case.upper]).chain([(&guarded, &column)]) {
         assert!(slice.whole() && slice.shared() == &was[..], "a slice lent for reading has changed, on {case:?}");

@@ -427,7 +427,7 @@ fn clash(e: &Entry, f: &Entry) -> bool {
         (ADD, ADD) => e.key() == f.key(),
         (ADD, _) | (_, ADD) => false,
         (STRIKE, _) | (_, STRIKE) => e.pos == f.pos,
-        (i, j) => e.pos == f.pos && i == j,
+        (i, j) => e.pos == f.pos && i == j && e.vals[0] != f.vals[0],
     }
 }
 

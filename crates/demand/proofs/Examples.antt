@@ -1,4 +1,4 @@
--- E7 to E11 of the scope's table hold of the call, by its contract.
+-- E7 to E11, and request 2's examples, hold of the call, by its contract.
 -- Assumes nothing.
 use Prim.Native.Nat.{ℕ}
 use mathlib.Core.Path.{_≡_, refl, ap, _∙_}
@@ -73,6 +73,12 @@ examples-of-call =
       ((refl, refl, refl), (refl, refl, refl)),
       (
         (refl, refl),
-        ((refl, refl), (((refl, refl, refl), (refl, refl, refl)), (((refl, refl, refl), (refl, refl, refl)), tt))),
+        (
+          (refl, refl),
+          (
+            ((refl, refl, refl), (refl, refl, refl)),
+            (((refl, refl, refl), (refl, refl, refl)), (((refl, refl, refl), (refl, refl, refl)), ((refl, refl), tt))),
+          ),
+        ),
       ),
     )

@@ -1,14 +1,15 @@
 -- What is promised of a move: demand 3 of the call, one outcome for each input, and a layer past itself.
 -- Assumes nothing.
-use Prim.Native.Nat.{ℕ, _+_, _-_, _≤_, _<_}
+use Prim.Native.Nat.{ℕ, _*_, _+_, _≤_, _<_}
 use native.Mathlib.Omega.{arith}
 use mathlib.Core.Path.{_≡_, refl, sym, ap, _∙_}
 use mathlib.Core.Bool.{Bool, true, false, cond}
-use mathlib.Core.List.{List, [], _∷_}
-use lib.ListN.{length, drop, length-map}
+use mathlib.Core.List.{List, _++_}
+use lib.ListN.{length, drop, length-map, take-append-drop}
+use lib.Seq.{length-take-le}
 use lib.Dec.{ltb, leb}
-use borrow.Author.Tests.{ltb-true, le-ltb, le-leb, eq-eqb}
-use Rattle.order.specs.Lists.{one, ascending, count, firstAt}
+use borrow.Author.Tests.{ltb-true, le-ltb, le-leb}
+use Rattle.order.specs.Lists.{one, any, count, firstAt}
 use Rattle.order.proofs.Tests.{and-of}
 use Rattle.order.proofs.Counts.{count-map, count-same}
 use Rattle.order.proofs.First.{first-passes, first-least}
@@ -16,31 +17,31 @@ use Rattle.words.specs.declared.Answer.{Answer}
 use Rattle.words.specs.declared.Answer.the-variants.{Done, Refused}
 use Rattle.words.specs.Answer.{numberOf}
 use Rattle.model.specs.Row.{Table, key, keys}
-use Rattle.model.specs.Cell.{to}
-use Rattle.model.specs.Layer.{add, strike, change, Edit, at, Layer, isAdd, isStrike, rowsAfter}
-use Rattle.model.specs.Raw.{entriesAt, layerOf, flat}
-use Rattle.model.specs.Form.{formPlace, inOrder, argsOk}
-use Rattle.model.specs.Fit.{fitPlace}
+use Rattle.model.specs.Layer.{add, strike, change, Edit, at, Layer, isAdd, isStrike, isAddOrStrike, rowsAfter}
+use Rattle.model.specs.Raw.{layerOf, flat}
+use Rattle.model.specs.Form.{inOrder}
 use Rattle.model.specs.Read.{read}
-use Rattle.model.specs.Conflict.{clash, met, clashesWith, conflict, conflictPlace}
+use Rattle.model.specs.Conflict.{clashesWith, conflict, conflictPlace}
 use Rattle.model.specs.Demand.{Conflicting}
 use Rattle.model.specs.Move.{moved, move}
 use Rattle.model.specs.Past.{Past}
-use Rattle.model.specs.Refusals.{firstMet, breaksForm}
+use Rattle.model.specs.Refusals.{firstMet}
 use Rattle.words.specs.Answer.{refusal}
 use Rattle.model.specs.Calls.{written, movedLayer, moveRows, moveAnswer}
-use Rattle.theory.proofs.Raw.{layer-length, args-held}
+use Rattle.theory.proofs.Raw.{layer-length}
 use Rattle.theory.proofs.Readback.{read-back}
 use Rattle.theory.proofs.Count.{read-length}
 use Rattle.theory.proofs.Conflict.{conflicting, of-conflicting}
+use Rattle.theory.proofs.Itself.{own-conflict, own-place, none-moved, rows-kept}
 use Rattle.theory.proofs.Position as position
 use Rattle.theory.proofs.Demand3.{Tested, demand3}
 use Rattle.theory.proofs.Stages.{stage-done}
 use Rattle.fit.specs.Ready.{Ready}
+use Rattle.form.proofs.Accepted.{Accepted}
 use Rattle.fit.proofs.Answers.{ready-form}
 use Rattle.pass.specs.Outcome.{Outcome}
 use Rattle.pair.specs.Pair.{pairForm, pairRows}
-use Rattle.pass.proofs.Sides.{good-side}
+use Rattle.pass.proofs.Sides.{sides, good-side}
 use Rattle.pass.proofs.Moving.{conflict-place, Moves, moves}
 use Rattle.demand.specs.Promises.{PassesFour, Lowest, MovedPast, BothOrders}
 
@@ -195,42 +196,39 @@ module _ (c : ℕ) (T : Table) (mx : ℕ) (x : List ℕ) (my : ℕ) (y : List �
       → BothOrders c T mx x x′ my y y′
   both-orders K h r s x′ y′ o p = both-orders-keys r s x′ y′ (rw (← h) at o) (rw (← h) at p)
 
--- A layer past itself: 8 where it is not empty, accepted where it is.
-own : (e : Edit) → met (clash e e) ≡ true
-own (at s (add r)) = rw (eq-eqb (key r) (key r) refl)
-own (at s (strike k)) = rw (eq-eqb s s refl)
-own (at s (change j (to v))) = rw (eq-eqb s s refl, eq-eqb j j refl)
+-- A layer past itself, past refusals 1 to 4: 8 at its first add or strike; where it has none, accepted and as it was.
+module _ (c : ℕ) (K : List ℕ) (m : ℕ) (x : List ℕ) (four : PassesFour c K m x m x) (r : Answer) (x′ : List ℕ)
+    (o : Outcome c K m x m x r x′) where
+  abbrev X : Layer
+  X = layerOf c m x
 
-own-place : (X : Layer) → 0 < length X → (conflict X X ≡ true) × (conflictPlace X X ≡ 0)
-unfolding conflict conflictPlace
-own-place [] h = absurd (omega arith)
-own-place (e ∷ X) h = (rw (own e), rw (own e))
+  formed : Accepted c (length K) m x (rowsAfter (length K) X)
+  formed = ready-form (sides c K m x m x 0 0 four .0 .mine)
 
-pub itself-refused : (c : ℕ) (K : List ℕ) (m : ℕ) (x : List ℕ) → PassesFour c K m x m x → 0 < m
-    → (r : Answer) (x′ : List ℕ) → Outcome c K m x m x r x′
-    → (r ≡ Refused (refusal 8 0)) × (x′ ≡ x)
-itself-refused c K m x four h r x′ o =
-    let X = layerOf c m x in
-    let w = own-place X (omega (arith, layer-length c m x)) in
-    let e =
-    (eight-exactly c K m x m x four r x′ o .1 (conflicting X X (w .0))) .0
-    ∙ ap (λ (p : ℕ). Refused (refusal 8 p)) (w .1) in
-    (e, slice-of c K m x m x r (Refused (refusal 8 0)) x′ o e)
+  pub itself-refused : any isAddOrStrike X ≡ true → (r ≡ Refused (refusal 8 (firstAt isAddOrStrike X))) × (x′ ≡ x)
+  itself-refused h =
+      let e =
+      eight-exactly c K m x m x four r x′ o .1 (conflicting X X (own-conflict X (formed .pairs) ∙ h)) .0
+      ∙ ap (λ (p : ℕ). Refused (refusal 8 p)) (own-place X (formed .pairs)) in
+      (e, slice-of c K m x m x r (Refused (refusal 8 (firstAt isAddOrStrike X))) x′ o e)
 
-module _ (c : ℕ) (K x : List ℕ) (ok : argsOk c (length K) 0 (length x) ≡ true) (rises : ascending K ≡ true) where
-  empty-answer : moveAnswer c K 0 x 0 x ≡ Done 0
-  unfolding moveAnswer breaksForm formPlace fitPlace layerOf entriesAt conflict
-  empty-answer =
-      let n = args-held c (length K) 0 x ok .1 in
-      rw (
-        ok,
-        le-ltb 4096 ((length K + 0) - 0) (omega arith),
-        rises,
-        le-ltb 4096 ((((length K + 0) - 0) + 0) - 0) (omega arith),
-      )
+  module _ (quiet : any isAddOrStrike X ≡ false) where
+    itself-passes : moveAnswer c K m x m x ≡ Done m
+    itself-passes =
+        sym (answer c K m x m x four)
+        ∙ rw (
+          own-conflict X (formed .pairs),
+          quiet,
+          rows-kept X quiet (length K),
+          rows-kept X quiet (length K),
+          le-ltb 4096 (length K) (formed .base),
+        )
 
-  pub itself-accepted : (r : Answer) (x′ : List ℕ) → Outcome c K 0 x 0 x r x′ → (r ≡ Done 0) × (x′ ≡ x)
-  unfolding flat layerOf entriesAt
-  itself-accepted r x′ o =
-      let e = o .0 ∙ empty-answer in
-      (e, slice-of c K 0 x 0 x r (Done 0) x′ o e)
+    as-it-was : flat c X ++ drop (length (flat c X)) x ≡ x
+    as-it-was =
+        rw (formed .numbers, length-take-le (m * (c + 2)) x (formed .held .room)) (take-append-drop (m * (c + 2)) x)
+
+    pub itself-accepted : (r ≡ Done m) × (x′ ≡ x)
+    itself-accepted =
+        let e = o .0 ∙ itself-passes in
+        (e, slice-of c K m x m x r (Done m) x′ o e ∙ (rw (none-moved X quiet X) as-it-was))

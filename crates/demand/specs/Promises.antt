@@ -55,7 +55,7 @@ abbrev pub StaysAt : Layer → Layer → ℕ → Type 0
 StaysAt X Y place = (r : Answer) (x′ : List ℕ) → Outcome 2 (keys four) (length X) (flat 2 X) (length Y) (flat 2 Y) r x′
     → (r ≡ Refused (refusal 8 place)) × (x′ ≡ flat 2 X)
 
--- what the lines of a table of examples say of the call; E7 to E11 are lines of the last two kinds
+-- what the lines of a table of examples say of the call; E7 to E11 and two of request 2's are lines of the last two kinds
 abbrev pub EachOfCall : List Example → Type 0
 EachOfCall [] = Unit {0}
 EachOfCall (edits steps L T ∷ es) = EachOfCall es

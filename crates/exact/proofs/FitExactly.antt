@@ -2,20 +2,21 @@
 -- Assumes nothing.
 use Prim.Native.Nat.{ℕ, zero, suc, _≤_, _<_}
 use native.Mathlib.Omega.{arith}
-use mathlib.Core.Path.{_≡_, refl, sym, _∙_}
+use mathlib.Core.Path.{_≡_, refl, sym, ap, _∙_}
 use mathlib.Core.Logic.{_⊎_, inl, inr, ⊎-elim, _↔_}
 use mathlib.Core.Bool.{Bool, true, false, not, _&&_, _||_, true≢false}
 use mathlib.Core.List.{List, [], _∷_, List·Memᴰ as Mem, List·Memᴰ·not-nil as not-nil}
 use lib.ListN.{length, getD}
 use lib.Dec.{leb, ltb, eqb}
-use borrow.Author.Tests.{ltb-true, ltb-false, leb-false, eqb-true, lt-ltb, le-ltb, lt-leb, eq-eqb}
+use borrow.Author.Tests.{ltb-true, ltb-false, leb-false, eqb-true, lt-ltb, le-ltb, lt-leb, eq-eqb, ne-eqb}
 use Rattle.order.specs.Lists.{rising, ascending, firstAt}
 use Rattle.order.proofs.Tests.{and-l, and-r, and-of, or-cases, or-l, or-r, not-passed}
 use Rattle.order.proofs.First.{first-least}
 use Rattle.model.specs.Row.{key}
+use Rattle.model.specs.Cell.{to}
 use Rattle.model.specs.Layer.{add, strike, change, Edit, at, Layer, struck}
 use Rattle.model.specs.Fit.{above, under, suits, rises, fitPlace}
-use Rattle.model.specs.Conflict.{clashesWith, conflict, conflictPlace}
+use Rattle.model.specs.Conflict.{sameCell, clash, met, clashesWith, conflict, conflictPlace}
 use Rattle.model.specs.Demand.{Conflicting}
 use Rattle.theory.proofs.Layer.{of-struck, struck-of}
 use Rattle.theory.proofs.Conflict.{conflicting, of-conflicting}
@@ -161,6 +162,13 @@ module _ (K : List ℕ) (L : Layer) where
   fit-exactly =
       let w = fit-place-exactly (length L) (omega arith) in
       (λ h. w .0 (ltb-false (fitPlace K L) (length L) h), λ f. le-ltb (fitPlace K L) (length L) (w .1 f))
+
+-- two changes of one cell conflict exactly where their values differ
+pub values-exactly : (s j v w : ℕ) → (clash (at s (change j (to v))) (at s (change j (to w))) ≡ sameCell) ↔ (v ≡ w → ⊥)
+values-exactly s j v w = (
+  λ h e. true≢false (sym (ap met h) ∙ rw (eq-eqb s s refl, eq-eqb j j refl, eq-eqb v w e)),
+  λ ne. rw (eq-eqb s s refl, eq-eqb j j refl, ne-eqb v w ne),
+)
 
 -- Conflict, and its place: the lowest entry of X in any.
 conflict-one : (x : Edit) (Y : Layer) → (clashesWith Y x ≡ true) ↔ Conflicting (x ∷ []) Y

@@ -200,12 +200,21 @@ move-call = (refl, refl, refl, refl)
 pub conflict-call : (moveAnswer 2 K4 1 struck30 1 (2 ∷ 1 ∷ 5 ∷ 0 ∷ []) ≡ Refused (refusal 8 0))
     × (moveAnswer 2 K4 1 (2 ∷ 65535 ∷ 25 ∷ 7 ∷ []) 1 (2 ∷ 65535 ∷ 25 ∷ 7 ∷ []) ≡ Refused (refusal 8 0))
     × (moveAnswer 2 K4 2 (2 ∷ 65535 ∷ 26 ∷ 0 ∷ struck30) 1 struck30 ≡ Refused (refusal 8 1))
-    × (moveAnswer 2 K4 1 (2 ∷ 1 ∷ 5 ∷ 0 ∷ []) 1 (2 ∷ 1 ∷ 5 ∷ 0 ∷ []) ≡ Refused (refusal 8 0))
+    × (moveAnswer 2 K4 1 (2 ∷ 1 ∷ 5 ∷ 0 ∷ []) 1 (2 ∷ 1 ∷ 6 ∷ 0 ∷ []) ≡ Refused (refusal 8 0))
     × (moveAnswer 2 K4 1 struck30 1 (2 ∷ 2 ∷ 5 ∷ 0 ∷ []) ≡ Refused (refusal 2 1000))
     × (moveAnswer 2 K4 1 struck30 1 (2 ∷ 65534 ∷ 40 ∷ 0 ∷ []) ≡ Refused (refusal 4 1000))
     × (moveSlice 2 K4 1 struck30 1 (2 ∷ 65534 ∷ 40 ∷ 0 ∷ []) ≡ struck30)
 unfolding moveAnswer argsOk breaksForm formPlace layerOf entriesAt fitPlace key conflict conflictPlace rowOf addPosition flat
 conflict-call = (refl, refl, refl, refl, refl, refl, refl)
+
+-- one cell set to one value by both: each passes and stays, and combined they are one entry
+pub same-value-call : (moveAnswer 2 K4 1 (2 ∷ 1 ∷ 5 ∷ 0 ∷ []) 1 (2 ∷ 1 ∷ 5 ∷ 0 ∷ []) ≡ Done 1)
+    × (moveSlice 2 K4 1 (2 ∷ 1 ∷ 5 ∷ 0 ∷ []) 1 (2 ∷ 1 ∷ 5 ∷ 0 ∷ []) ≡ 2 ∷ 1 ∷ 5 ∷ 0 ∷ [])
+    × (combineAnswer 2 K4 1 (2 ∷ 1 ∷ 5 ∷ 0 ∷ []) 1 (2 ∷ 1 ∷ 5 ∷ 0 ∷ []) 4 ≡ Done 1)
+    × (combineSlice 2 K4 1 (2 ∷ 1 ∷ 5 ∷ 0 ∷ []) 1 (2 ∷ 1 ∷ 5 ∷ 0 ∷ []) (replicate 6 99) ≡ 2 ∷ 1 ∷ 5 ∷ 0 ∷ 99 ∷ 99 ∷ [])
+unfolding moveAnswer combineAnswer argsOk breaksForm formPlace layerOf entriesAt fitPlace key conflict conflictPlace rowOf addPosition flat put
+    combine changeRowNo changeBase origins room
+same-value-call = (refl, refl, refl, refl)
 
 -- E12 as a combination into ten numbers; into seven it gives 9
 pub e12-call : (combineAnswer 2 K4 1 struck30 1 (2 ∷ 65535 ∷ 35 ∷ 0 ∷ []) 10 ≡ Done 2)
@@ -228,13 +237,15 @@ pub check-call : (formAnswer 2 4 4 slice4 ≡ Done 6) × (readyAnswer 2 4 slice4
 unfolding formAnswer readyAnswer fitAnswer argsOk breaksForm formPlace layerOf entriesAt fitPlace key
 check-call = (refl, refl, refl, refl, refl, refl, refl)
 
--- the rules of conflict by their numbers: a struck row, one cell, one key; and none
+-- the rules of conflict by their numbers: a struck row, one cell to two values, one key; and none, also for one cell to one value
 pub rule-call : (ruleNumber (clash (at 2 (strike 30)) (at 2 (change 1 (to 5)))) ≡ 1)
-    × (ruleNumber (clash (at 2 (change 1 (to 5))) (at 2 (change 1 (to 5)))) ≡ 2)
+    × (ruleNumber (clash (at 2 (change 1 (to 5))) (at 2 (change 1 (to 6)))) ≡ 2)
     × (ruleNumber (clash (at 2 (add (25 ∷ 7 ∷ []))) (at 2 (add (25 ∷ 7 ∷ [])))) ≡ 3)
     × (ruleNumber (clash (at 2 (strike 30)) (at 2 (add (25 ∷ 0 ∷ [])))) ≡ 0)
+    × (ruleNumber (clash (at 2 (change 1 (to 5))) (at 2 (change 1 (to 5)))) ≡ 0)
+    × (ruleNumber (clash (at 2 (change 1 (to 5))) (at 2 (change 2 (to 6)))) ≡ 0)
 unfolding key
-rule-call = (refl, refl, refl, refl)
+rule-call = (refl, refl, refl, refl, refl, refl)
 
 -- where two lines are met the first answers: form before keys, fit before the row, the first layer before the second
 abbrev badKind : List ℕ

@@ -37,11 +37,11 @@ pub fn stands_before(d: Head, e: Head) -> bool
     ((d.kind == Entry::ADD) & adds) | ((d.kind != Entry::ADD) & changes)
 }
 
-// Two changes of one cell, by their heads, pass each other: none do.
+// Two changes of one cell, by their heads, pass each other: those to one value.
 pub fn agrees(mine: Head, theirs: Head) -> bool
     ensures { λ r. ⌜ r ≡ agree (cellOf mine) (cellOf theirs) ⌝ }
 {
-    false
+    mine.first == theirs.first
 }
 
 // The rule that two entries of one base meet: 1 a struck row, 2 a cell that both change, 3 a key that both add, 0 none.

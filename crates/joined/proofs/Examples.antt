@@ -1,4 +1,4 @@
--- E12 of the scope's table holds of the call, by its contract.
+-- E12, and request 2's example, hold of the call, by its contract.
 -- Assumes nothing.
 use mathlib.Core.Path.{_≡_, refl, ap, _∙_}
 use mathlib.Core.Bool.{false}
@@ -71,5 +71,5 @@ unfolding examples combineAnswer argsOk breaksForm formPlace fitPlace layerOf en
 examples-of-call =
     each-of-call examples (
       (omega arith, λ len h. rw (h), refl),
-      ((omega arith, λ len h. rw (h), refl), tt),
+      ((omega arith, λ len h. rw (h), refl), ((omega arith, λ len h. rw (h), refl), tt)),
     )

@@ -42,7 +42,7 @@ CombinesTo R W L = (out : List ℕ) (a : Answer) (out′ : List ℕ) → length 
     → Combined 2 (keys four) (length R) (flat 2 R) (length W) (flat 2 W) out a out′
     → (a ≡ Done (length L)) × (out′ ≡ flat 2 L ++ drop (length (flat 2 L)) out)
 
--- what the lines of a table of examples say of the call; E12 is the lines of the last kind
+-- what the lines of a table of examples say of the call; E12 and one of request 2's are the lines of the last kind
 abbrev pub EachOfCall : List Example → Type 0
 EachOfCall [] = Unit {0}
 EachOfCall (edits steps L T ∷ es) = EachOfCall es

@@ -12,6 +12,7 @@ use Rattle.model.specs.Read.{readColumn}
 use Rattle.model.specs.Position.{origins}
 use Rattle.model.specs.Edits.{before, strikeBase, changeBase, changeRowNo}
 use Rattle.model.specs.Redo.{combine}
+use Rattle.model.specs.Conflict.{none, sameCell, clash}
 use Rattle.model.specs.Meaning.{meaning, row, given}
 
 -- three base groups
@@ -58,3 +59,13 @@ pub upper-row : combine K (at 0 (add (5 ∷ 0 ∷ 0 ∷ [])) ∷ []) (at 1 (chan
     ≡ at 0 (add (5 ∷ 0 ∷ 0 ∷ [])) ∷ at 0 (change 1 (to 5)) ∷ []
 unfolding combine changeRowNo changeBase origins key
 upper-row = refl
+
+-- one cell: to one value nothing is met, to two values rule 2 is, and two columns of a row are two cells
+pub one-value : clash (at 1 (change 1 (to 5))) (at 1 (change 1 (to 5))) ≡ none
+one-value = refl
+
+pub two-values : clash (at 1 (change 1 (to 5))) (at 1 (change 1 (to 6))) ≡ sameCell
+two-values = refl
+
+pub two-columns : clash (at 1 (change 1 (to 5))) (at 1 (change 2 (to 6))) ≡ none
+two-columns = refl

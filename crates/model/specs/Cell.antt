@@ -1,7 +1,8 @@
 -- What a change does to one cell, and which two changes of one cell do not conflict.
-use mathlib.Core.Bool.{Bool, true, false}
+use mathlib.Core.Bool.{Bool}
 use Prim.Native.Nat.{ℕ}
 use lib.ListN.{set}
+use lib.Dec.{eqb}
 use Rattle.model.specs.Row.{Row, cell}
 
 -- an edit of a cell: it becomes v
@@ -16,9 +17,9 @@ done (to v) old = v
 abbrev pub over : CellEdit → CellEdit → CellEdit
 over (to v) f = to v
 
--- two edits of one cell that pass each other: none, not even two to the same value
+-- two edits of one cell that pass each other: those to one value
 abbrev pub agree : CellEdit → CellEdit → Bool
-agree (to v) (to w) = false
+agree (to v) (to w) = eqb v w
 
 -- a row with the edit done to its column j
 unfoldable pub put : Row → ℕ → CellEdit → Row

@@ -8,7 +8,7 @@ use Rattle.model.specs.Row.{key}
 use Rattle.model.specs.Cell.{agree}
 use Rattle.model.specs.Layer.{Deed, add, strike, change, Edit, at, Layer}
 
--- 1: one strikes a base row that the other strikes or changes; 2: both change one column of one base row; 3: both add one key
+-- 1: one strikes a base row that the other strikes or changes; 2: both change one column of one base row, to different values; 3: both add one key
 pub data Rule : Type 0 where
   none : Rule
   struckRow : Rule

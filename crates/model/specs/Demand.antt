@@ -24,7 +24,7 @@ pub data Conflicting (X Y : Layer) : Type 0 where
   -- one strikes a base row that the other strikes or changes
   mineStrikes : (s : ℕ) → struck s X ≡ true → struck s Y || rowChanged s Y ≡ true → Conflicting X Y
   theirsStrikes : (s : ℕ) → struck s Y ≡ true → struck s X || rowChanged s X ≡ true → Conflicting X Y
-  -- both change one cell of a base row, by edits that do not agree
+  -- both change one cell of a base row to different values
   bothChange : (s j : ℕ) (e f : CellEdit) → Mem (at s (change j e)) X → Mem (at s (change j f)) Y → agree e f ≡ false
       → Conflicting X Y
   -- both add one key

@@ -1,4 +1,4 @@
--- E1 to E12 of the scope, one table of data; and what it is for a line of it to hold.
+-- E1 to E12 of the scope and those of request 2, one table of data; and what it is for a line of it to hold.
 use mathlib.Core.Bool.{Bool, true, false, not, _&&_}
 use mathlib.Core.List.{List, [], _∷_, map}
 use Prim.Native.Nat.{ℕ, suc}
@@ -123,4 +123,10 @@ examples =
     -- E12 R = 2 strike 30; W = 2 add 35: 2 strike 30, 3 add 35; with W = 2 add 27: 2 add 27, 2 strike 30
     ∷ combines (at 2 (strike 30) ∷ []) (at 2 (add (35 ∷ 0 ∷ [])) ∷ []) (at 2 (strike 30) ∷ at 3 (add (35 ∷ 0 ∷ [])) ∷ [])
     ∷ combines (at 2 (strike 30) ∷ []) (at 2 (add (27 ∷ 0 ∷ [])) ∷ []) (at 2 (add (27 ∷ 0 ∷ [])) ∷ at 2 (strike 30) ∷ [])
+    -- request 2: both set one cell to 5: each passes and stays, and one table has it; done one after the other it is one entry
+    ∷ passes (at 2 (change 1 (to 5)) ∷ []) (at 2 (change 1 (to 5)) ∷ []) (2 ∷ []) (2 ∷ [])
+    ((10 ∷ 1 ∷ []) ∷ (20 ∷ 2 ∷ []) ∷ (30 ∷ 5 ∷ []) ∷ (40 ∷ 8 ∷ []) ∷ [])
+    ∷ combines (at 2 (change 1 (to 5)) ∷ []) (at 2 (change 1 (to 5)) ∷ []) (at 2 (change 1 (to 5)) ∷ [])
+    -- one to 5, the other to 6: refusal 8, at the place of the change
+    ∷ refuses (at 1 (strike 20) ∷ at 2 (change 1 (to 5)) ∷ []) (at 2 (change 1 (to 6)) ∷ []) 1
     ∷ []

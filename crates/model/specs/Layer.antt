@@ -1,5 +1,5 @@
 -- A layer as a list of edits, each at its position: an added row, a struck key, a changed cell.
-use mathlib.Core.Bool.{Bool, true, false, cond, _&&_}
+use mathlib.Core.Bool.{Bool, true, false, cond, _&&_, _||_}
 use mathlib.Core.List.{List, [], _∷_}
 use Prim.Native.Nat.{ℕ, _+_, _-_}
 use lib.Dec.{eqb}
@@ -44,6 +44,9 @@ isAdd = onAdd (λ s r. true)
 
 abbrev pub isStrike : Edit → Bool
 isStrike = onStrike (λ s k. true)
+
+abbrev pub isAddOrStrike : Edit → Bool
+isAddOrStrike e = isAdd e || isStrike e
 
 -- rows after the layer: n + adds - strikes
 abbrev pub rowsAfter : ℕ → Layer → ℕ

@@ -1,13 +1,14 @@
 -- How many elements pass: of joined lists, of tests that add up, of mapped lists.
 -- Assumes nothing.
-use mathlib.Core.Path.{_≡_, refl, ap}
+use mathlib.Core.Path.{_≡_, refl, sym, ap, _∙_}
 use mathlib.Core.Bool.{Bool, true, false, cond}
 use mathlib.Core.List.{List, [], _∷_, _++_, map, List·Memᴰ as Mem, List·Memᴰ·head as here, List·Memᴰ·tail as next}
 use Prim.Native.Nat.{suc, _+_, _-_, _≤_}
 use native.Mathlib.Omega.{arith}
 use lib.ListN.{length}
 use Rattle.order.specs.Lists.{one, count, filter, insert}
-use Rattle.order.proofs.Tests.{one-le}
+use Rattle.order.proofs.Tests.{one-le, not-passed}
+use Rattle.order.proofs.Pairs.{AllPairs}
 
 module _ {A : Type 0} where
   pub count-append : (f : A → Bool) (xs ys : List A) → count f (xs ++ ys) ≡ count f xs + count f ys
@@ -63,6 +64,15 @@ module _ {A : Type 0} where
           → count f (cond t (x ∷ filter g xs) (filter g xs)) ≡ one (f x) + count f xs
       go ih true e = omega arith
       go ih false e = omega (arith, ap one (h x (here refl) e))
+
+  -- where no two that pass can stand in one list, one that passes is the only one
+  pub count-once : (f : A → Bool) (R : A → A → Bool) → ((x y : A) → f x ≡ true → f y ≡ true → R x y ≡ true → ⊥)
+      → (xs : List A) → AllPairs R xs → (x : A) → Mem x xs → f x ≡ true → count f xs ≡ 1
+  count-once f R two (y ∷ ys) p x (here e) t =
+      let u : f y ≡ true = sym (ap f e) ∙ t in
+      omega (arith, ap one u, count-zero f ys (λ z m. ap one (not-passed (f z) (λ v. two y z u v (p .0 z m)))))
+  count-once f R two (y ∷ ys) p x (next m) t =
+      omega (arith, ap one (not-passed (f y) (λ v. two y x v t (p .0 x m))), count-once f R two ys (p .1) x m t)
 
 module _ {A B : Type 0} where
   pub count-map : (f : A → B) (g : B → Bool) (xs : List A) → count g (map f xs) ≡ count (λ x. g (f x)) xs

@@ -2,7 +2,7 @@
 -- Assumes nothing.
 use mathlib.Core.Path.{_≡_, refl, sym, _∙_}
 use mathlib.Core.Bool.{Bool, true, false, cond, _||_}
-use mathlib.Core.List.{List, [], _∷_}
+use mathlib.Core.List.{List, [], _∷_, List·Memᴰ as Mem, List·Memᴰ·head as here, List·Memᴰ·tail as next}
 use Prim.Native.Nat.{ℕ, zero, suc, _≤_, _<_}
 use native.Mathlib.Omega.{arith}
 use lib.ListN.{length, getD}
@@ -53,3 +53,9 @@ module _ {A : Type 0} (f : A → Bool) where
       go true e i g ih = absurd (omega arith)
       go false e zero g ih = e
       go false e (suc i) g ih = ih i (omega arith)
+
+-- where two tests are one on the elements, so is the place
+module _ {A : Type 0} (f g : A → Bool) where
+  pub first-same : (xs : List A) → ((x : A) → Mem x xs → f x ≡ g x) → firstAt f xs ≡ firstAt g xs
+  first-same [] h = refl
+  first-same (x ∷ xs) h = rw (h x (here refl), first-same xs (λ y m. h y (next m)))

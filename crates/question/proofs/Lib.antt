@@ -1,3 +1,4 @@
 pub mod Mine
 pub mod Typed
 pub mod Calls
+pub mod Same

@@ -6,22 +6,20 @@ use mathlib.Core.Bool.{Bool, true, false, not, cond, true≢false}
 use mathlib.Core.List.{List, [], _∷_, List·Memᴰ as Mem, List·Memᴰ·head as here, Memᴰ·cast as mem-cast}
 use Prim.Native.Nat.{ℕ, _≤_, _<_}
 use native.Mathlib.Omega.{arith}
-use lib.ListN.{length, getD}
-use lib.Dec.{eqb}
 use borrow.Author.Tests.{eq-eqb, ne-eqb}
-use Rattle.order.specs.Lists.{any, count, filter, ascending}
+use Rattle.order.specs.Lists.{any, filter, ascending}
 use Rattle.order.proofs.Members.{any-mem, mem-insert, mem-map}
-use Rattle.order.proofs.Ascending.{AscFrom, At, below, at-mem, of-asc}
+use Rattle.order.proofs.Ascending.{AscFrom, At, at-mem, of-asc}
 use Rattle.model.specs.Row.{Row, Table, cell, key, keys}
-use Rattle.model.specs.Cell.{CellEdit, to, agree, put}
-use Rattle.model.specs.Layer.{Deed, add, strike, change, Edit, at, Layer, struck}
+use Rattle.model.specs.Cell.{to, put}
+use Rattle.model.specs.Layer.{Deed, add, strike, change, at, Layer}
 use Rattle.model.specs.Read.{read}
 use Rattle.model.specs.Edits.{changeRowNo, deedBefore}
-use Rattle.model.specs.Redo.{putKey, changeKey}
+use Rattle.model.specs.Redo.{putKey}
 use Rattle.model.specs.Conflict.{conflict}
-use Rattle.model.specs.Meaning.{keyOf, meaning, row, lookup, given}
+use Rattle.model.specs.Meaning.{meaning, row, lookup, given}
 use Rattle.theory.proofs.Cell.{put-key, put-here}
-use Rattle.theory.proofs.Fit.{Fit, Good, key-of, good-form, good-fits}
+use Rattle.theory.proofs.Fit.{Good, key-of, good-form, good-fits}
 use Rattle.theory.proofs.Count.{read-ascends}
 use Rattle.theory.proofs.Column.{Wide, read-wide}
 use Rattle.theory.proofs.Conflict.{apart, conflict-sym}
@@ -29,10 +27,10 @@ use Rattle.theory.proofs.Move.{Beside}
 use Rattle.theory.proofs.Demand3.{Tested}
 use Rattle.theory.proofs.Edited.{change-good, change-reads}
 use Rattle.theory.proofs.Joined.{addsRow, putDeed, changeDeeds, changesColumn, set-composed-deeds, change-means}
-use Rattle.theory.proofs.Meaning.{meaning-mem, position-of}
+use Rattle.theory.proofs.Meaning.{meaning-mem}
 use Rattle.theory.proofs.Lookup.{lookup-mem, lookup-found, one-layer}
 use Rattle.theory.proofs.Moved.{together}
-use Rattle.theory.proofs.Operator.{Leaves, operators-question, mine-alone, mine-cell}
+use Rattle.theory.proofs.Operator.{operators-question, mine-alone, mine-cell}
 
 none-of : (ds : List Deed) → ((d : Deed) → Mem d ds → ⊥) → ds ≡ []
 none-of [] h = refl
@@ -53,9 +51,6 @@ added-alone T X Y B C g s r m e = none-of (meaning (keys T) Y g) no
         let w = meaning-mem (keys T) Y g (change j f) l in
         let z = B .theirs .changes (w .0) j f (w .1) in
         true≢false (sym (B .mine .fresh s r m (w .0) (z .0) (z .1) (sym (key-of (z .1)) ∙ (w .2 ∙ sym e))) ∙ C .apart .changes (w .0) j f (w .1))
-
-never-agree : (v : ℕ) (f : CellEdit) → agree (to v) f ≡ true → ⊥
-never-agree v (to w) h = true≢false (sym h)
 
 -- I saw q in row i, through my layer L, and changed its column j to v; theirs is Y
 module _ (c : ℕ) (T : Table) (L Y : Layer) (a : AscFrom key 0 T) (wide : Wide c T) (G : Good c T L) (H : Good c T Y)
@@ -123,15 +118,8 @@ module _ (c : ℕ) (T : Table) (L Y : Layer) (a : AscFrom key 0 T) (wide : Wide 
         go false e =
             let k : Mem (change j (to v)) (meaning (keys T) X g) =
             rw (means, e, set-composed-deeds j v (meaning (keys T) L g)) (mem-insert deedBefore (change j (to v)) (filter (λ d. not (changesColumn j d)) (meaning (keys T) L g)) (change j (to v)) (inl refl)) in
-            let z = meaning-mem (keys T) X g (change j (to v)) k in
-            let none : Leaves j (meaning (keys T) Y g) = λ f m.
-            let y = meaning-mem (keys T) Y g (change j f) m in
-            let ps : z .0 ≡ y .0 =
-            sym (position-of T X a (good .fit) (z .0) (change j (to v)) (z .1))
-            ∙ (ap (λ (l : ℕ). count (below key l) T) (z .2 ∙ sym (y .2)) ∙ position-of T Y a (H .fit) (y .0) (change j f) (y .1)) in
-            never-agree v f (B .apart .cells (y .0) j j (to v) f (mem-cast {b = at (z .0) (change j (to v))} (ap (λ (p : ℕ). at p (change j (to v))) (sym ps)) (z .1)) (y .1) refl) in
-            let w = mine-cell c T X Y t TX TY free g j (to v) k none in
-            (w .1, w .3, w .4 (omega (arith, wide (w .0) (lookup-found T g (w .0) (w .2) .0))))
+            let w = mine-cell c T X Y t TX TY free g j (to v) k in
+            (w .1, w .3, w .4 (omega (arith, read-wide c T Y wide H (w .0) (lookup-found (read T Y) g (w .0) (w .2) .0))))
 
     -- and every other group's row is what my other edits make of theirs
     pub no-other : (k : ℕ) → (key q ≡ k → ⊥) → lookup k (together T X Y) ≡ given (meaning (keys T) L k) (lookup k (read T Y))

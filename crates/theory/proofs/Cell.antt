@@ -2,8 +2,8 @@
 -- that may trade places.
 -- Assumes nothing.
 use mathlib.Core.Path.{_≡_, refl, sym, ap, _∙_}
-use mathlib.Core.Bool.{Bool, true, false, true≢false}
-use mathlib.Core.List.{List, [], _∷_}
+use mathlib.Core.Bool.{Bool, true, false}
+use mathlib.Core.List.{[], _∷_}
 use Prim.Native.Nat.{ℕ, zero, suc, _≤_, _<_}
 use native.Mathlib.Omega.{arith}
 use lib.ListN.{length, getD, set, length-set}
@@ -50,9 +50,13 @@ put-over r j e f = go (ltb j (length r)) refl
         out : (g : CellEdit) → put r j g ≡ r
         out g = set-out r j (done g (cell j r)) (ltb-false j (length r) h)
 
+-- an edit done over itself is that edit
+pub over-same : (e : CellEdit) → over e e ≡ e
+over-same (to v) = refl
+
 -- edits of different cells, and edits of one cell that agree, may trade places
 done-agree : (e f : CellEdit) → agree e f ≡ true → (v : ℕ) → done f (done e v) ≡ done e (done f v)
-done-agree (to v) (to w) t u = absurd (true≢false (sym t))
+done-agree (to v) (to w) t u = sym (eqb-true v w t)
 
 pub put-comm : (r : Row) (i j : ℕ) (e f : CellEdit) → (i ≡ j → agree e f ≡ true) → put (put r i e) j f ≡ put (put r j f) i e
 unfolding put

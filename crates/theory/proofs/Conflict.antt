@@ -44,9 +44,12 @@ of-conflict X Y h =
     let z = any-mem (λ y. met (clash (w .0) y)) Y (w .2) in
     (w .0, z .0, w .1, z .1, z .2)
 
--- either way round
+-- a cell edit passes itself, and either way round
+pub agree-same : (e : CellEdit) → agree e e ≡ true
+agree-same (to v) = eq-eqb v v refl
+
 agree-sym : (e f : CellEdit) → agree e f ≡ agree f e
-agree-sym (to v) (to w) = refl
+agree-sym (to v) (to w) = eqb-sym v w
 
 pub clash-sym : (e f : Edit) → clash e f ≡ clash f e
 clash-sym (at p (add q)) (at s (add r)) = rw (eqb-sym (key q) (key r))

@@ -103,7 +103,7 @@ good-by c T N each apt sorted = record {
 }
 
 -- every strike of L is one of N
-abbrev StrikesIn : Layer → Layer → Type 0
+abbrev pub StrikesIn : Layer → Layer → Type 0
 StrikesIn L N = (s k : ℕ) → Mem (at s (strike k)) L → Mem (at s (strike k)) N
 
 struck-in : (L N : Layer) → StrikesIn L N → (i : ℕ) → struck i L ≡ true → struck i N ≡ true
@@ -115,7 +115,7 @@ apt-in T L N h (at s (strike k)) w = w
 apt-in T L N h (at s (change j e)) w = w
 
 -- a good layer less edits that are no strikes
-good-less : (c : ℕ) (T : Table) (L M : Layer) → Good c T L → ((e : Edit) → Mem e M → Mem e L) → StrikesIn L M
+pub good-less : (c : ℕ) (T : Table) (L M : Layer) → Good c T L → ((e : Edit) → Mem e M → Mem e L) → StrikesIn L M
     → AllPairs before M → Good c T M
 good-less c T L M G sub h o =
     good-by c T M (λ e m. G .each e (sub e m)) (λ e m. apt-in T L M h e (apt-of T L (G .fit) e (sub e m))) o

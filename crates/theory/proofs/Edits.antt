@@ -56,7 +56,7 @@ deed-rises (add q) (change j f) h = refl
 deed-rises (strike l) e h = refl
 deed-rises (change j f) e h = refl
 
-deed-trans : (d e f : Deed) → deedBefore d e ≡ true → deedBefore e f ≡ true → deedBefore d f ≡ true
+pub deed-trans : (d e f : Deed) → deedBefore d e ≡ true → deedBefore e f ≡ true → deedBefore d f ≡ true
 deed-trans (add q) (add r) (add x) a b = lt-ltb (key q) (key x) (omega tests)
 deed-trans (add q) (add r) (strike l) a b = refl
 deed-trans (add q) (add r) (change j f) a b = refl
@@ -71,7 +71,7 @@ deed-trans (change j g) (change i h) (add r) a b = absurd (true≢false (sym b))
 deed-trans (change j g) (change i h) (strike l) a b = absurd (true≢false (sym b))
 deed-trans (change j g) (change i h) (change k m) a b = lt-ltb j k (omega tests)
 
-deed-asym : (d e : Deed) → deedBefore d e ≡ true → deedBefore e d ≡ true → ⊥
+pub deed-asym : (d e : Deed) → deedBefore d e ≡ true → deedBefore e d ≡ true → ⊥
 deed-asym (add q) (add r) a b = omega tests
 deed-asym (add q) (strike l) a b = true≢false (sym b)
 deed-asym (add q) (change j f) a b = true≢false (sym b)

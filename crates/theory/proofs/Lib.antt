@@ -11,6 +11,7 @@ pub mod Position
 pub mod Origin
 pub mod Count
 pub mod Conflict
+pub mod Itself
 pub mod Meaning
 pub mod Lookup
 pub mod Redo
@@ -25,3 +26,4 @@ pub mod Steps
 pub mod Canonical
 pub mod Operator
 pub mod Combine
+pub mod Same

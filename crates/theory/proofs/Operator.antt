@@ -34,7 +34,7 @@ use Rattle.theory.proofs.Layer.{changed-keeps, changed-length}
 use Rattle.theory.proofs.Fit.{Fit, key-of}
 use Rattle.theory.proofs.Conflict.{conflict-sym}
 use Rattle.theory.proofs.Meaning.{meaning-mem, changed-kept}
-use Rattle.theory.proofs.Lookup.{lookup-mem, lookup-found, here-strike, change-at, at-change, one-layer}
+use Rattle.theory.proofs.Lookup.{lookup-mem, lookup-found, here-strike, change-at, at-change, kept-given, one-layer}
 use Rattle.theory.proofs.Move.{Beside}
 use Rattle.theory.proofs.Moved.{together, after-both, kept-row, both-orders}
 use Rattle.theory.proofs.Demand3.{Tested, beside}
@@ -100,7 +100,7 @@ of-cell j (d ∷ ds) = first d (of-cell j ds)
 pub data Whose (ds es : List Deed) (j old new : ℕ) : Type 0 where
   mine : (e : CellEdit) → Mem (change j e) ds → Leaves j es → new ≡ done e old → Whose ds es j old new
   theirs : (f : CellEdit) → Mem (change j f) es → Leaves j ds → new ≡ done f old → Whose ds es j old new
-  -- only by edits that agree
+  -- to one value
   ours : (e f : CellEdit) → Mem (change j e) ds → Mem (change j f) es → agree e f ≡ true → new ≡ done e (done f old)
       → Whose ds es j old new
   base : Leaves j ds → Leaves j es → new ≡ old → Whose ds es j old new
@@ -201,20 +201,21 @@ module _ (c : ℕ) (T : Table) (X Y : Layer) (t : ascending (keys T) ≡ true) (
       kept L F p n kq none =
           not-passed (struck p L) (λ u. let w = here-strike T L (side .ascends) F g p q n kq u in none (w .0) (w .1))
 
-  -- a cell that only my set changes is what my change makes of it
-  pub mine-cell : (g j : ℕ) (e : CellEdit) → Mem (change j e) (meaning (keys T) X g) → Leaves j (meaning (keys T) Y g)
-      → (q : Row) × (r : Row) × (lookup g T ≡ row q) × (lookup g (together T X Y) ≡ row r)
-      × (j < length q → cell j r ≡ done e (cell j q))
-  mine-cell g j e m none =
+  -- a cell that my set changes is what my change makes of it in the row that theirs leave
+  pub mine-cell : (g j : ℕ) (e : CellEdit) → Mem (change j e) (meaning (keys T) X g)
+      → (o : Row) × (r : Row) × (lookup g (read T Y) ≡ row o) × (lookup g (together T X Y) ≡ row r)
+      × (j < length o → cell j r ≡ done e (cell j o))
+  mine-cell g j e m =
       let w = meaning-mem (keys T) X g (change j e) m in
       let z = side .mine .changes (w .0) j e (w .1) in
       let kq : key (z .0) ≡ g = sym (key-of (z .1)) ∙ w .2 in
       let u : struck (w .0) X ≡ false = changed-kept X (side .mine .sorted) (w .0) j e (w .1) in
       let v : struck (w .0) Y ≡ false = side .apart .changes (w .0) j e (w .1) in (
-        z .0,
+        changed (w .0) Y (z .0),
         changed (w .0) X (changed (w .0) Y (z .0)),
-        lookup-mem T (side .ascends) g (z .0) (at-mem (z .1)) kq,
+        one-layer T Y (side .ascends) (side .theirs) g
+            ∙ (ap (given (meaning (keys T) Y g)) (lookup-mem T (side .ascends) g (z .0) (at-mem (z .1)) kq)
+            ∙ kept-given T Y (side .ascends) (side .theirs) g (w .0) (z .0) (z .1) kq v (z .0)),
         kept-row T X Y side g (w .0) (z .0) (z .1) kq u v,
-        λ l. mine-done T X Y side g (w .0) (z .0) (z .1) kq j l e m
-            ∙ ap (done e) (theirs-left T X Y side g (w .0) (z .0) (z .1) kq j l none),
+        λ l. mine-done T X Y side g (w .0) (z .0) (z .1) kq j (omega (arith, changed-length (w .0) Y (z .0))) e m,
       )
