@@ -44,7 +44,7 @@ pub fn agrees(mine: Head, theirs: Head) -> bool
     mine.first == theirs.first
 }
 
-// The rule that two entries of one base meet: 1 a struck row, 2 a cell that both change, 3 a key that both add, 0 none.
+// The rule that two entries of one base meet: 1 a struck row, 2 a cell that both change, to different values, 3 a key that both add, 0 none.
 pub fn rule_met(mine: Head, theirs: Head) -> u64
     ensures { λ r. ⌜ r ≡ ruleNumber (clash (seen mine) (seen theirs)) ⌝ }
 {
