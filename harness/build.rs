@@ -15,14 +15,14 @@ fn main() {
     println!("cargo:rerun-if-changed=../crates");
     println!("cargo:rerun-if-changed=../crates.txt");
     run("rt", &["staticlib", "card"], &top);
-    let objects = ["plain", "file"].map(|name| {
+    let objects = ["plain", "file", "control"].map(|name| {
         let object = format!("{out}/{name}.o");
         // loops of one line of code and less take twice the time where they straddle two: none of plain C's does
         let flags = ["-O3", "-falign-functions=64", "-falign-loops=64", "-c", &format!("c/{name}.c"), "-o", &object];
         run("gcc", &flags, Path::new(&here));
         object
     });
-    run("ar", &["rcs", &format!("{out}/libplain.a"), &objects[0], &objects[1]], Path::new(&here));
+    run("ar", &["rcs", &format!("{out}/libplain.a"), &objects[0], &objects[1], &objects[2]], Path::new(&here));
     println!("cargo:rustc-link-search=native={}/target/staticlib", top.display());
     println!("cargo:rustc-link-search=native={out}");
     println!("cargo:rustc-link-lib=static=card");

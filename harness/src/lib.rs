@@ -1,9 +1,12 @@
-//! Compares the archive with an independent implementation of the scope.
+//! Compares the archive with an independent implementation of the scope, and counts what its edits store and load.
 
 pub mod calls;
 pub mod diff;
+pub mod edits;
 pub mod file;
 pub mod scope;
+pub mod spread;
+pub mod trace;
 
 /// A small generator of numbers, so that a printed seed repeats a run.
 pub struct Rng(u64);

@@ -20,13 +20,13 @@ pub fn add(c: usize, m: usize, layer: &mut [u64], keys: &[u64], row: &[u64]) -> 
                 return Answer::refused(7, 0);
             }
             if MOST_ROWS <= rows {
-                if write::room_of(c, layer.len()) < m + 1 {
+                if store::room_of(c, layer.len()) < m + 1 {
                     return Answer::refused(9, 0);
                 }
                 return Answer::refused(10, 0);
             }
             let splice = p.splice;
-            write::enter(c, m, splice, layer)
+            enter::enter(c, m, splice, layer)
         }
     }
 }

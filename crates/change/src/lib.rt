@@ -1,11 +1,10 @@
-// Change: the splice of a base row's change, planned and entered, or the cell of an added row, stored.
+// Change: the splice of a base row's change, planned and entered, or one value set.
 use words::Answer;
-use words::Back;
 ghost use mathlib.Core.Path.{_≡_};
 ghost use Rattle.model.specs.Calls.{changeAnswer, changeSlice};
 
-// Change column j of row number r to v: an added row's value is replaced; a base row's change of j is replaced, or
-// entered in column order. An equal value is entered too.
+// Change column j of row number r to v: an added row gets the value; a base row's change of j gets it, or is entered in
+// column order. An equal value is entered too.
 pub fn change(
     c: usize,
     m: usize,
@@ -30,17 +29,14 @@ pub fn change(
             if j == 0 {
                 return Answer::refused(6, 0);
             }
-            match mark::origin_of(c, keys.len(), m, layer, r) {
-                Back::Base(s) => {
-                    let p = plan::change_base(c, m, layer, keys, s, j, v);
-                    write::enter(c, m, p, layer)
-                }
-                Back::Added(i) => {
-                    write::set_value(c, m, i, j, v, layer);
-                    Answer::Done(m)
-                }
-                Back::Refused(x) => Answer::Refused(x),
+            let p = plan::change(c, m, layer, keys, r, j, v);
+            if p.alone {
+                let value = p.value;
+                enter::set_value(c, m, value, layer);
+                return Answer::Done(m);
             }
+            let splice = p.splice;
+            enter::enter(c, m, splice, layer)
         }
     }
 }

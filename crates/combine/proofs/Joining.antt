@@ -19,7 +19,7 @@ use Rattle.words.specs.Answer.{refusal}
 use Rattle.model.specs.Calls.{formAnswer, combineRows, combineAnswer, combineSlice, combinedLayer, written}
 use Rattle.theory.proofs.Stages.{reached, stage-passed}
 use Rattle.form.proofs.Accepted.{Accepted, accepted}
-use Rattle.write.proofs.Laws.{in-room}
+use Rattle.store.proofs.Laws.{in-room}
 use Rattle.over.specs.Over.{Named}
 use Rattle.woven.specs.Woven.{wovenLayer}
 use Rattle.woven.proofs.Combined.{Combines, combines}

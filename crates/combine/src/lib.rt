@@ -51,7 +51,7 @@ pub fn combine(
     match stacked::check_both(c, keys, mr, r, mw, w, &mut names) {
         Answer::Refused(x) => Answer::Refused(x),
         Answer::Done(_) => {
-            let room = write::room_of(c, out.len());
+            let room = store::room_of(c, out.len());
             if more_than(room, c, keys, &names, mr, r, mw, w, out) {
                 return Answer::refused(9, 0);
             }

@@ -36,7 +36,7 @@ use Rattle.theory.proofs.Steps.{empty-good, empty-reads, step-reads}
 use Rattle.form.specs.InForm.{InForm}
 use Rattle.form.proofs.Accepted.{accepts-form}
 use Rattle.fit.proofs.Answers.{ready-fits}
-use Rattle.write.proofs.Laws.{in-room}
+use Rattle.store.proofs.Laws.{in-room}
 use Rattle.write.proofs.Layers.{flat-length}
 use Rattle.edit.specs.Runs.{stepAnswer, Allows, stepSlice, Ran, still, first}
 use Rattle.edit.proofs.Accepting.{Accepts, accepts}

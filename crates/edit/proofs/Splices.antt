@@ -1,42 +1,91 @@
--- An accepted edit is one splice: of the layer's edits one run goes, and at most one edit comes in its place.
+-- An accepted edit is one move. Of the layer's edits one run goes, and at most one edit comes in its place; in the slice it
+-- is one splice, or one value set.
 -- Assumes nothing.
-use Prim.Native.Nat.{ℕ, zero, suc, _+_, _-_, _≤_, _<_}
-use native.Mathlib.Nat.{suc-add}
+use Prim.Native.Nat.{ℕ, suc, _+_, _*_, _-_, _≤_, _<_}
 use native.Mathlib.Omega.{arith}
-use mathlib.Core.Path.{_≡_, refl, sym, ap}
+use mathlib.Core.Path.{_≡_, refl, sym, ap, subst, _∙_}
+use mathlib.Core.Bool.{Bool, true, false, not, cond, _||_, true≢false}
 use mathlib.Core.List.{List, [], _∷_, _++_}
-use lib.ListN.{length, getD, take, drop, replicate}
-use Rattle.order.specs.Lists.{one}
-use Rattle.order.proofs.Ascending.{At, at-length}
-use Rattle.order.proofs.Edited.{at-head, at-tail, at-none}
+use lib.ListN.{length, getD, drop, replicate}
+use Rattle.order.specs.Lists.{one, any, count, filter}
+use Rattle.order.proofs.Counts.{length-insert}
+use Rattle.order.proofs.Ascending.{at-length}
 use Rattle.words.specs.declared.Answer.the-variants.{Done}
 use Rattle.model.specs.Row.{Table, key, keys}
 use Rattle.model.specs.Cell.{CellEdit, to}
-use Rattle.model.specs.Layer.{Edit, at, add, Layer, rowsAfter}
-use Rattle.model.specs.Raw.{layerOf}
+use Rattle.model.specs.Layer.{at, change, Layer, rowsAfter, changesCell}
+use Rattle.model.specs.Raw.{Held, layerOf}
 use Rattle.words.specs.Entry.{ADD, STRIKE, addEntry, strikeEntry, changeEntry}
 use Rattle.model.specs.Fit.{keysBelow}
 use Rattle.model.specs.Read.{read}
 use Rattle.model.specs.Position.{Origin, base, added, back}
-use Rattle.model.specs.Edits.{changeAddedRow, changeAdded, strikeRow, changeRowNo}
+use Rattle.model.specs.Edits.{before, composed, changeBase, strikeRow, changeRowNo}
 use Rattle.model.specs.Steps.{Step, adding, striking, changing, stepOn}
+use Rattle.model.specs.Calls.{originAnswer}
 use Rattle.theory.proofs.Fit.{keys-length}
 use Rattle.theory.proofs.Count.{read-length}
+use Rattle.theory.proofs.Column.{singles, keys-singles}
 use Rattle.theory.proofs.Origin.{Stands}
-use Rattle.write.specs.Plans.{OneSplice}
-use Rattle.write.proofs.Layers.{plan-splice}
+use Rattle.store.specs.Numbers.{entryNumbers}
+use Rattle.splice.specs.Splice.{fresh}
+use Rattle.enter.specs.Move.{Move, entries, number, countAfter}
+use Rattle.write.specs.Plans.{Plans, splices, sets, OneSplice}
+use Rattle.store.proofs.Laws.{coming-length, in-room}
+use Rattle.write.proofs.Layers.{plan-splice, plan-count, plan-done, plan-within}
 use Rattle.landing.specs.Landing.{aim, landing, changesFirst}
 use Rattle.landing.proofs.Known.{Known, known}
-use Rattle.plan.proofs.Planned.{add-plans, strike-plans, change-plans, out-plans, stands}
-use Rattle.edit.specs.Runs.{stepAnswer}
+use Rattle.plan.specs.Moves.{outOf, oneOf}
+use Rattle.plan.proofs.Planned.{written, add-plans, strike-plans, change-plans, out-plans, stands, change-of-base, change-of-added}
+use Rattle.edit.specs.Runs.{stepAnswer, stepSlice, Allows}
+use Rattle.edit.specs.OneMove.{strikeMove, changeMove, moveFor, OneMove, holdsCell, OneNumber}
 use Rattle.edit.proofs.Accepting.{Accepts, accepts}
+use Rattle.edit.proofs.Laws.{accepted-outcome}
 
--- the edit number i replaced
-change-at : (i j : ℕ) (e : CellEdit) (d : Edit) (L : Layer) → At d i 0 L
-    → changeAdded i j e L ≡ take i L ++ (changeAddedRow j e d ∷ drop (i + 1) L)
-change-at i j e d [] a = absurd (at-none a)
-change-at zero j e d (x ∷ L) a = ap (λ (y : Edit). changeAddedRow j e y ∷ L) (sym (at-head a))
-change-at (suc i) j e d (x ∷ L) a = rw suc-add (ap (λ (t : Layer). x ∷ t) (change-at i j e d L (at-tail a)))
+-- what a filter leaves, and what it takes
+kept : {A : Type 0} (f : A → Bool) (xs : List A) → length (filter (λ x. not (f x)) xs) + count f xs ≡ length xs
+kept f [] = omega arith
+kept f (x ∷ xs) = go (kept f xs) (f x)
+  where
+    go : length (filter (λ x. not (f x)) xs) + count f xs ≡ length xs → (t : Bool)
+        → length (cond (not t) (x ∷ filter (λ x. not (f x)) xs) (filter (λ x. not (f x)) xs)) + (one t + count f xs)
+        ≡ suc (length xs)
+    go ih true = omega arith
+    go ih false = omega arith
+
+any-one : {A : Type 0} (f : A → Bool) (xs : List A) → any f xs ≡ true → 1 ≤ count f xs
+any-one f [] h = absurd (true≢false (sym h))
+any-one f (x ∷ xs) h = go (any-one f xs) (f x) h
+  where
+    go : (any f xs ≡ true → 1 ≤ count f xs) → (t : Bool) → t || any f xs ≡ true → 1 ≤ one t + count f xs
+    go ih true e = omega arith
+    go ih false e = omega (arith, ih e)
+
+-- over a change of the cell a new one comes in its place
+no-more : (s j : ℕ) (e : CellEdit) (L : Layer) → any (changesCell s j) L ≡ true
+    → length (changeBase s j e L) ≤ length L
+unfolding changeBase
+no-more s j e L h =
+    omega (
+      arith,
+      length-insert before (at s (change j (composed s j e L))) (filter (λ d. not (changesCell s j d)) L),
+      kept (changesCell s j) L,
+      any-one (changesCell s j) L h,
+    )
+
+-- the entry that comes, if one does, has all its c + 2 numbers
+abbrev pub Whole : ℕ → Move → Type 0
+Whole c (entries p) = length (fresh c p) ≡ p .comes * (c + 2)
+Whole c (number x) = Unit {0}
+
+plan-whole : {c : ℕ} {L M : Layer} {p : Move} → Plans c L M p → Whole c p
+plan-whole {c} (splices {p} P) =
+    coming-length (c + 2) (p .comes) (entryNumbers c (p .entry)) (P .few) (ap length (P .numbers) ∙ P .wide)
+plan-whole (sets P) = tt
+
+-- an accepted edit is the move that it is said to be, of a layer that its slice holds; what comes is whole
+abbrev pub Moves : ℕ → ℕ → List ℕ → List ℕ → Step → ℕ → Type 0
+Moves c m raw K x k =
+    (let p = moveFor K (layerOf c m raw) x in OneMove c m raw p k (stepSlice c m raw K x k) × Held c m raw × Whole c p)
 
 module _ (c m : ℕ) (raw : List ℕ) (T : Table) where
   abbrev K : List ℕ
@@ -49,43 +98,132 @@ module _ (c m : ℕ) (raw : List ℕ) (T : Table) where
     N : Known c m raw K
     N = known (A .ready)
 
-    -- what stands behind a row that is read
-    behind : (r : ℕ) → r < length (read T L) → Stands (length K) L (back (length K) L r)
-    behind r h =
-        stands N r (omega (arith, h, read-length T L (A .good .fit), ap (λ (n : ℕ). rowsAfter n L) (keys-length T)))
+    -- a row that is read is one of those shown
+    shown : (r : ℕ) → r < length (read T L) → r < rowsAfter (length K) L
+    shown r h = omega (arith, read-length T L (A .good .fit), ap (λ (n : ℕ). rowsAfter n L) (keys-length T))
 
-    struck-splice : (r : ℕ) (o : Origin) → back (length K) L r ≡ o → Stands (length K) L o
-        → OneSplice L (strikeRow K r L)
+    struck-move : (r : ℕ) (o : Origin) → back (length K) L r ≡ o → Stands (length K) L o
+        → Plans c L (strikeRow K r L) (strikeMove K L o)
     unfolding strikeRow
-    struck-splice r (base s) e w =
-        rw e (plan-splice (strike-plans N s (landing (aim s STRIKE 0) L) (landing (aim (s + 1) ADD 0) L) (w .1) refl refl
+    struck-move r (base s) e w =
+        rw e (splices (strike-plans N s (landing (aim s STRIKE 0) L) (landing (aim (s + 1) ADD 0) L) (w .1) refl refl
         (strikeEntry s (getD K s 0)) refl))
-    struck-splice r (added i) e w = rw e (plan-splice (out-plans N i (omega (arith, at-length (w .2)))))
+    struck-move r (added i) e w = rw e (splices (out-plans N i (omega (arith, at-length (w .2)))))
 
-    changed-splice : (r j v : ℕ) (o : Origin) → back (length K) L r ≡ o → Stands (length K) L o → 1 ≤ j → j < c
-        → OneSplice L (changeRowNo K r j (to v) L)
-    unfolding changeRowNo
-    changed-splice r j v (base s) e w l h =
-        let i = landing (aim s j 0) L in
-        rw e (plan-splice (change-plans N s j v i (one (changesFirst s j (drop i L))) l h refl refl
-        (changeEntry s j v) refl))
-    changed-splice r j v (added i) e w l h = rw e (record {
-      i = i;
-      gone = 1;
-      new = changeAddedRow j (to v) (at (w .0) (add (w .1))) ∷ [];
-      few = omega arith;
-      within = omega (arith, at-length (w .2));
-      leads = change-at i j (to v) (at (w .0) (add (w .1))) L (w .2);
-    })
+    -- a change of column j of row number r
+    module _ (r j v : ℕ) (h : r < rowsAfter (length K) L) (l : 1 ≤ j) (g : j < c) where
+      abbrev spot : ℕ → ℕ
+      spot s = landing (aim s j 0) L
 
-  splice-of : (x : Step) (k : ℕ) → Accepts c m raw T x k → OneSplice L (stepOn K x L)
-  splice-of (adding row) k A =
+      -- the move where value n of entry i is set; and that of base row s, whose change of the column stands already or not
+      abbrev valueAt : ℕ → ℕ → Move
+      valueAt i n = number (record { i = i; j = n; v = v })
+
+      abbrev baseMove : ℕ → Bool → Move
+      baseMove s t =
+          oneOf t (record { i = spot s; j = 0; v = v })
+          (record { i = spot s; gone = 0; comes = 1; entry = changeEntry s j v })
+
+      base-plans : (s : ℕ) (t : Bool) → t ≡ changesFirst s j (drop (spot s) L)
+          → Plans c L (changeBase s j (to v) L) (baseMove s t)
+      base-plans s t q = change-plans N s j v (spot s) l g refl t q (changeEntry s j v) refl
+
+      added-plans : (i : ℕ) → back (length K) L r ≡ added i → Plans c L (changeRowNo K r j (to v) L) (valueAt i j)
+      added-plans i e = change-of-added N r h j v i (ap originAnswer e) g
+
+      changed-move : (o : Origin) → back (length K) L r ≡ o → Plans c L (changeRowNo K r j (to v) L) (changeMove L j v o)
+      changed-move (base s) e =
+          change-of-base N r h j v s e (changeMove L j v (base s)) (base-plans s (changesFirst s j (drop (spot s) L)) refl)
+      changed-move (added i) e = added-plans i e
+
+      -- where the layer holds a value of the cell, that value alone is set
+      value-plans : (o : Origin) → back (length K) L r ≡ o → holdsCell j L o ≡ true
+          → (i : ℕ) × (n : ℕ) × Plans c L (changeRowNo K r j (to v) L) (valueAt i n)
+      value-plans (added i) e q = (i, j, added-plans i e)
+      value-plans (base s) e q = go (changesFirst s j (drop (spot s) L)) refl
+        where
+          go : (t : Bool) → t ≡ changesFirst s j (drop (spot s) L)
+              → (i : ℕ) × (n : ℕ) × Plans c L (changeRowNo K r j (to v) L) (valueAt i n)
+          go true f = (spot s, 0, change-of-base N r h j v s e (valueAt (spot s) 0) (base-plans s true f))
+          go false f =
+              absurd (omega (
+                arith,
+                plan-count c m raw L (written N) (base-plans s false f),
+                no-more s j (to v) L q,
+                N .acc .size,
+              ))
+
+  moved : (x : Step) (k : ℕ) → Accepts c m raw T x k → Plans c L (stepOn K x L) (moveFor K L x)
+  moved (adding row) k A =
       let p = keysBelow (key row) K in
-      plan-splice (add-plans (N A) row (A .allowed .0) p (landing (aim p ADD (key row)) L) refl refl
+      splices (add-plans (N A) row (A .allowed .0) p (landing (aim p ADD (key row)) L) refl refl
       (addEntry p (row ++ replicate (8 - length row) 0)) refl)
-  splice-of (striking r) k A = struck-splice A r (back (length K) L r) refl (behind A r (A .allowed))
-  splice-of (changing r j (to v)) k A =
-      changed-splice A r j v (back (length K) L r) refl (behind A r (A .allowed .0)) (A .allowed .1) (A .allowed .2)
+  moved (striking r) k A =
+      struck-move A r (back (length K) L r) refl (stands (N A) r (shown A r (A .allowed)))
+  moved (changing r j (to v)) k A =
+      changed-move A r j v (shown A r (A .allowed .0)) (A .allowed .1) (A .allowed .2) (back (length K) L r) refl
+
+  -- what an accepted edit leaves is what its move enters
+  one-of : {x : Step} {k : ℕ} (A : Accepts c m raw T x k) {p : Move} → Plans c L (stepOn K x L) p
+      → OneMove c m raw p k (stepSlice c m raw K x k)
+  one-of {k = k} A {p} P =
+      let W = written (N A) in
+      let n : k ≡ countAfter m p = sym (plan-count c m raw L W P ∙ A .size) in
+      record {
+        within = plan-within c m raw L W P;
+        room = rw (← n) (in-room c (length raw) k (A .room) .1);
+        count = n;
+        slice = sym (plan-done c m raw L W P k);
+      }
 
   pub edit-splice : (x : Step) (k : ℕ) → stepAnswer c m raw K x ≡ Done k → OneSplice L (stepOn K x L)
-  edit-splice x k h = splice-of x k (accepts c m raw T x k h)
+  edit-splice x k h = plan-splice (moved x k (accepts c m raw T x k h))
+
+  move-of : (x : Step) (k : ℕ) → stepAnswer c m raw K x ≡ Done k → Moves c m raw K x k
+  move-of x k h =
+      let A = accepts c m raw T x k h in
+      let P = moved x k A in
+      (one-of A P, N A .acc .held, plan-whole P)
+
+  value-of : (r j v k : ℕ) → stepAnswer c m raw K (changing r j (to v)) ≡ Done k
+      → holdsCell j L (back (length K) L r) ≡ true
+      → OneNumber c m raw v k (stepSlice c m raw K (changing r j (to v)) k)
+  value-of r j v k h q =
+      let A = accepts c m raw T (changing r j (to v)) k h in
+      let w = value-plans A r j v (shown A r (A .allowed .0)) (A .allowed .1) (A .allowed .2) (back (length K) L r) refl q in
+      let o = one-of A (w .2) in
+      record {
+        i = w .0;
+        j = w .1;
+        entry = o .within .0;
+        column = o .within .1;
+        count = o .count;
+        slice = o .slice;
+      }
+
+-- every list is the key column of some rows
+pub whole-move : (c m : ℕ) (raw K : List ℕ) (x : Step) (k : ℕ) → stepAnswer c m raw K x ≡ Done k → Moves c m raw K x k
+whole-move c m raw K x k =
+    subst (λ (Z : List ℕ). stepAnswer c m raw Z x ≡ Done k → Moves c m raw Z x k) (keys-singles K)
+    (move-of c m raw (singles K) x k)
+
+pub one-move : (c m : ℕ) (raw K : List ℕ) (x : Step) (k : ℕ) → stepAnswer c m raw K x ≡ Done k
+    → OneMove c m raw (moveFor K (layerOf c m raw) x) k (stepSlice c m raw K x k)
+one-move c m raw K x k h = whole-move c m raw K x k h .0
+
+-- the same of what its contract allows
+pub allowed-move : (c m : ℕ) (raw K : List ℕ) (x : Step) (k : ℕ) (new : List ℕ) → Allows c m raw K x (Done k) new
+    → OneMove c m raw (moveFor K (layerOf c m raw) x) k new
+allowed-move c m raw K x k new o =
+    let w = accepted-outcome c m raw K x (Done k) new o k refl in
+    rw (w .1) (one-move c m raw K x k (w .0))
+
+-- a change of a cell of which the layer holds a value sets one number alone
+pub value-alone : (c m : ℕ) (raw K : List ℕ) (r j v k : ℕ) → stepAnswer c m raw K (changing r j (to v)) ≡ Done k
+    → holdsCell j (layerOf c m raw) (back (length K) (layerOf c m raw) r) ≡ true
+    → OneNumber c m raw v k (stepSlice c m raw K (changing r j (to v)) k)
+value-alone c m raw K r j v k =
+    subst (λ (Z : List ℕ). stepAnswer c m raw Z (changing r j (to v)) ≡ Done k
+    → holdsCell j (layerOf c m raw) (back (length Z) (layerOf c m raw) r) ≡ true
+    → OneNumber c m raw v k (stepSlice c m raw Z (changing r j (to v)) k)) (keys-singles K)
+    (value-of c m raw (singles K) r j v k)

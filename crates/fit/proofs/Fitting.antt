@@ -36,7 +36,7 @@ module _ (c m : ℕ) (xs K : List ℕ) (h : InForm c (length K) m xs) where
   unfolding layerOf
   each e k = known .each (editOf e) (mem-map editOf (entriesOf c m xs) e k)
 
-  place : fitPlace K (layerOf c m xs) ≡ fitFrom K 0 0 0 (entriesOf c m xs)
+  pub place : fitPlace K (layerOf c m xs) ≡ fitFrom K 0 0 0 (entriesOf c m xs)
   unfolding layerOf
   place = sym (fit-place c (length K) K (entriesOf c m xs) (record { each = known .each; pairs = known .pairs }))
 

@@ -33,8 +33,8 @@ pub fn fit_place(c: usize, m: usize, layer: &[u64], keys: &[u64]) -> usize
     i
 }
 
-// Refusals 1 to 4 of one layer: arguments, form, keys, fit. The result is the number of rows after the layer.
-pub fn ready(c: usize, m: usize, layer: &[u64], keys: &[u64]) -> Answer
+// Refusals 1 to 4 of one layer, one after the other: arguments, form, keys, fit. It walks the layer for form, then for fit.
+fn in_turn(c: usize, m: usize, layer: &[u64], keys: &[u64]) -> Answer
     ensures { λ r. ⌜ r ≡ readyAnswer c m (now (layer .entry)) (now (keys .entry)) ⌝ }
 {
     match form::check(c, keys.len(), m, layer) {
@@ -46,6 +46,31 @@ pub fn ready(c: usize, m: usize, layer: &[u64], keys: &[u64]) -> Answer
             let place = fit_place(c, m, layer, keys);
             if place < m {
                 return Answer::refused(4, place);
+            }
+            Answer::Done(rows)
+        }
+    }
+}
+
+// Refusals 1 to 4 of one layer: arguments, form, keys, fit. The result is the number of rows after the layer.
+// Layers stand in slow memory, so an accepted one is walked once, for form and fit together.
+// One with an entry at fault is walked again, since form further on and the keys are refused before fit.
+pub fn ready(c: usize, m: usize, layer: &[u64], keys: &[u64]) -> Answer
+    ensures { λ r. ⌜ r ≡ readyAnswer c m (now (layer .entry)) (now (keys .entry)) ⌝ }
+{
+    let n = keys.len();
+    if !form::args_ok(c, n, m, layer.len()) {
+        return Answer::refused(1, 0);
+    }
+    let seen = vet::form_and_fit(c, m, layer, keys);
+    if seen.place < m {
+        return in_turn(c, m, layer, keys);
+    }
+    match form::judge(n, m, seen) {
+        Answer::Refused(x) => Answer::Refused(x),
+        Answer::Done(rows) => {
+            if !keys::ascend(keys) {
+                return Answer::refused(3, 0);
             }
             Answer::Done(rows)
         }

@@ -41,7 +41,7 @@ use Rattle.combine.proofs.combine.Reads as combine-contract
 use Rattle.combine.proofs.Joining.{low, up, joins, rows-few, accepts, Accepts}
 use Rattle.form.proofs.Accepted.{accepts-form}
 use Rattle.fit.proofs.Answers.{ready-fits}
-use Rattle.write.proofs.Laws.{in-room}
+use Rattle.store.proofs.Laws.{in-room}
 
 -- the contract, as the call is proved to meet it, allows just these outcomes
 pub outcome : (κs : Lfts 4) (a : Dens κs combine-kinds.ps) (s : AtExit (endedOf 4 combine-kinds.ps combine-kinds.r) κs)

@@ -1,16 +1,18 @@
--- The landing search, one step and the end; what stands on either side of where an edit lands; and what stands there.
+-- What stands on either side of where an edit lands; on which side an entry stands; and what stands there.
 -- Assumes nothing.
-use Prim.Native.Nat.{ℕ, _+_, _*_, _≤_, _<_}
+use Prim.Native.Nat.{ℕ, suc, _+_, _*_, _-_, _≤_, _<_}
 use native.Mathlib.Omega.{arith}
-use mathlib.Core.Path.{_≡_, refl, sym}
+use mathlib.Core.Path.{_≡_, refl, sym, _∙_}
 use mathlib.Core.Bool.{Bool, true, false, not, _&&_, true≢false}
-use mathlib.Core.List.{List, [], _∷_, List·Memᴰ as Mem}
+use mathlib.Core.List.{List, [], _∷_, List·Memᴰ as Mem, List·Memᴰ·head as here}
 use lib.ListN.{length, take, drop}
-use lib.Dec.{eqb}
+use lib.Seq.{drop-drop}
+use lib.Dec.{leb, ltb, eqb}
+use borrow.Author.Tests.{leb-true, leb-false, ltb-true, ltb-false}
 use Rattle.order.proofs.First.{first-le}
-use Rattle.order.proofs.Tests.{impossible}
+use Rattle.order.proofs.Tests.{impossible, not-passed}
 use Rattle.order.proofs.Pairs.{AllPairs}
-use Rattle.order.proofs.Splice.{front, rest}
+use Rattle.order.proofs.Splice.{drop-mem, part, front, rest}
 use Rattle.model.specs.Cell.{to}
 use Rattle.model.specs.Layer.{Edit, Layer, at, add, strike, change}
 use Rattle.model.specs.Raw.{entryAt, editOf, layerOf}
@@ -19,26 +21,8 @@ use Rattle.theory.proofs.Edits.{before-trans}
 use Rattle.entry.specs.declared.Sight.{Sight}
 use Rattle.entry.specs.declared.Sight.the-variants.{End, Add, Strike, Change}
 use Rattle.entry.specs.Look.{lookOf}
-use Rattle.entry.proofs.Looks.{left-step, left-end}
+use Rattle.entry.proofs.Looks.{left-step}
 use Rattle.landing.specs.Landing.{landing, changesFirst}
-
--- The entries from number i of m on.
-module _ (c m i : ℕ) (xs : List ℕ) (e : Edit) where
-  abbrev L : Layer
-  L = layerOf c m xs
-
-  pub landing-step : i < m → before (editOf (entryAt c (i * (c + 2)) xs)) e ≡ true
-      → i + landing e (drop i L) ≡ i + 1 + landing e (drop (i + 1) L)
-  unfolding landing
-  landing-step h b = rw (left-step c m i xs h, b) (omega arith)
-
-  pub landing-stop : i < m → before (editOf (entryAt c (i * (c + 2)) xs)) e ≡ false → i + landing e (drop i L) ≡ i
-  unfolding landing
-  landing-stop h b = rw (left-step c m i xs h, b) (omega arith)
-
-  pub landing-end : m ≤ i → i + landing e (drop i L) ≡ i
-  unfolding landing
-  landing-end h = rw (left-end c m i xs h) (omega arith)
 
 pub landing-le : (e : Edit) (L : Layer) → landing e L ≤ length L
 unfolding landing
@@ -53,6 +37,37 @@ module _ (e : Edit) (L : Layer) (i : ℕ) (lands : i ≡ landing e L) where
   pub lands-first : AllPairs before L → (d : Edit) → Mem d (drop i L) → before d e ≡ false
   unfolding landing
   lands-first sorted d m = rest before e before-trans L sorted d (rw lands at m)
+
+-- an entry of a layer in order that stands before e lies in front of where e lands, and any other does not
+module _ (c m i : ℕ) (xs : List ℕ) (e : Edit) (h : i < m) where
+  abbrev L : Layer
+  L = layerOf c m xs
+
+  abbrev d : Edit
+  d = editOf (entryAt c (i * (c + 2)) xs)
+
+  abbrev place : ℕ
+  place = landing e L
+
+  up-to : (j : ℕ) → i < j → Mem d (take j L)
+  up-to j l =
+      let n : j - i ≡ suc (j - (i + 1)) = omega arith in
+      drop-mem i (take j L) d (rw (← part i j L, left-step c m i xs h, n) (here refl))
+
+  from : (j : ℕ) → j ≤ i → Mem d (drop j L)
+  from j l =
+      let n : j + (i - j) ≡ i = omega arith in
+      drop-mem (i - j) (drop j L) d (rw (drop-drop (i - j) j L, n, left-step c m i xs h) (here refl))
+
+  pub past : AllPairs before L → before d e ≡ true → i < place
+  past sorted b =
+      leb-false place i (not-passed (leb place i)
+      (λ t. true≢false (sym b ∙ lands-first e L place refl sorted d (from place (leb-true place i t)))))
+
+  pub within : before d e ≡ false → place ≤ i
+  within b =
+      ltb-false i place (not-passed (ltb i place)
+      (λ t. true≢false (sym (lands-after e L place refl d (up-to place (ltb-true i place t))) ∙ b)))
 
 -- what a look finds: a change; an add or a strike, which have a key
 abbrev pub isChange : Sight → Bool

@@ -5,7 +5,9 @@ use head::Head;
 ghost use mathlib.Core.Path.{_≡_};
 ghost use Prim.Native.Nat.{_≤_};
 ghost use lib.ListN.{drop};
+ghost use Rattle.order.proofs.Pairs.{AllPairs};
 ghost use Rattle.model.specs.Raw.{Held, layerOf};
+ghost use Rattle.model.specs.Edits.{before};
 ghost use Rattle.words.specs.Entry.{ADD};
 ghost use Rattle.model.specs.Fit.{keysBelow};
 ghost use Rattle.model.specs.Read.{keysAfter};
@@ -13,9 +15,10 @@ ghost use Rattle.model.specs.Refusals.{shownKey};
 ghost use Rattle.fit.specs.Ready.{Ready};
 ghost use Rattle.landing.specs.Landing.{aim, landing, changesFirst, keyIs};
 
-// How many of the m entries stand before one at s of this kind and first value.
+// How many of the m entries, which stand in order, stand before one at s of this kind and first value: at least lo and at
+// most hi, halved until they meet.
 pub fn landing(c: usize, m: usize, layer: &[u64], s: u64, kind: u64, first: u64) -> usize
-    requires { ⌜ Held c m (now layer) ⌝ }
+    requires { ⌜ Held c m (now layer) × AllPairs before (layerOf c m (now layer)) ⌝ }
     ensures { λ r. ⌜ r ≡ landing (aim s kind first) (layerOf c m (now (layer .entry))) ⌝ }
 {
     let e = Head {
@@ -23,15 +26,18 @@ pub fn landing(c: usize, m: usize, layer: &[u64], s: u64, kind: u64, first: u64)
         kind,
         first,
     };
-    let mut k = Cursor::first();
-    while k.i < m {
-        let d = entry::head_at(c, k.at, layer);
-        if !head::stands_before(d, e) {
-            return k.i;
+    let mut lo: usize = 0;
+    let mut hi = m;
+    while lo < hi {
+        let mid = lo + (hi - lo) / 2;
+        let d = entry::head_at(c, mid * (c + 2), layer);
+        if head::stands_before(d, e) {
+            lo = mid + 1;
+        } else {
+            hi = mid;
         }
-        k = k.next(c);
     }
-    k.i
+    lo
 }
 
 // Entry number i, of at most m, is there and changes column j of base row s.

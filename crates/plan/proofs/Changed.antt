@@ -1,6 +1,7 @@
 -- Changing a cell of a base row: its old change, if there is one, stands right where the new one lands.
 -- Assumes nothing.
-use Prim.Native.Nat.{ℕ, _+_, _≤_, _<_}
+use Prim.Native.Nat.{ℕ, zero, suc, _+_, _≤_, _<_}
+use native.Mathlib.Nat.{suc-add}
 use native.Mathlib.Omega.{arith}
 use mathlib.Core.Path.{_≡_, refl, sym, ap, _∙_}
 use mathlib.Core.Logic.{_⊎_, ⊎-elim}
@@ -16,18 +17,21 @@ use mathlib.Core.List.{
   List·Memᴰ·cases-cons as cases-cons,
   List·Memᴰ·eq-of-singleton as eq-of-singleton,
 }
-use lib.ListN.{length, take, drop, length-drop}
+use lib.ListN.{length, take, drop, set, length-drop}
 use lib.Seq.{drop-drop}
 use lib.Dec.{eqb}
 use borrow.Author.Tests.{eqb-true, ne-eqb, ltb-true}
 use Rattle.order.proofs.Tests.{and-l, and-r, not-passed}
 use Rattle.order.proofs.Pairs.{AllPairs}
 use Rattle.order.specs.Lists.{one}
+use Rattle.order.proofs.Ascending.{At, top}
+use Rattle.order.proofs.Edited.{at-head, at-tail, at-none, at-next}
 use Rattle.order.proofs.Splice.{pairs-drop, splice}
 use Rattle.model.specs.Cell.{CellEdit, to}
 use Rattle.model.specs.Layer.{add, strike, change, Edit, at, Layer, changesCell}
 use Rattle.words.specs.Entry.{ADD, STRIKE}
-use Rattle.model.specs.Edits.{before, composed, changeBase}
+use Rattle.model.specs.Raw.{numbersOf}
+use Rattle.model.specs.Edits.{before, composed, changeBase, changeAdded, changeAddedRow}
 use Rattle.theory.proofs.Edits.{before-cases}
 use Rattle.landing.specs.Landing.{aim, landing, changesFirst}
 use Rattle.landing.proofs.Landed.{landing-le, lands-after, lands-first}
@@ -112,3 +116,27 @@ module _ (s j : ℕ) (f : CellEdit) where
         go [] e g = absurd (true≢false (sym g))
         go (x ∷ R) e g = omega (arith, length-drop i L, ap length e)
     first-there false h = omega (arith, lands, landing-le (at s (change j (to 0))) L)
+
+-- the change that stands there
+pub first-change : (s j i : ℕ) (L : Layer) → changesFirst s j (drop i L) ≡ true
+    → (f : CellEdit) × At (at s (change j f)) i 0 L
+first-change s j zero [] h = absurd (true≢false (sym h))
+first-change s j zero (at p (add q) ∷ L) h = absurd (true≢false (sym h))
+first-change s j zero (at p (strike k) ∷ L) h = absurd (true≢false (sym h))
+first-change s j zero (at p (change i f) ∷ L) h =
+    let a : s ≡ p = eqb-true s p (and-l (eqb s p) (eqb j i) h) in
+    let b : j ≡ i = eqb-true j i (and-r (eqb s p) (eqb j i) h) in
+    (f, top (λ y. at (a y) (change (b y) f)) refl)
+first-change s j (suc i) [] h = absurd (true≢false (sym h))
+first-change s j (suc i) (x ∷ L) h = let w = first-change s j i L h in (w .0, at-next x (w .1))
+
+-- its numbers with another value
+pub value-set : (c s j v : ℕ) (f : CellEdit) → numbersOf c (at s (change j (to v))) ≡ set (numbersOf c (at s (change j f))) (2 + 0) v
+value-set c s j v (to u) = refl
+
+-- the edit number i replaced
+pub change-at : (i j : ℕ) (e : CellEdit) (d : Edit) (L : Layer) → At d i 0 L
+    → changeAdded i j e L ≡ take i L ++ (changeAddedRow j e d ∷ drop (i + 1) L)
+change-at i j e d [] a = absurd (at-none a)
+change-at zero j e d (x ∷ L) a = ap (λ (y : Edit). changeAddedRow j e y ∷ L) (sym (at-head a))
+change-at (suc i) j e d (x ∷ L) a = rw suc-add (ap (λ (t : Layer). x ∷ t) (change-at i j e d L (at-tail a)))

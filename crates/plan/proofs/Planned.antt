@@ -4,7 +4,7 @@ use Prim.Native.Nat.{ℕ, zero, suc, _+_, _-_, _≤_, _<_}
 use native.Mathlib.Nat.{add-zero, zero-add, sub-zero, zero-sub, suc-sub-suc}
 use native.Mathlib.Omega.{arith}
 use mathlib.Core.Path.{_≡_, refl, sym, ap, _∙_, subst}
-use mathlib.Core.Bool.{false, _&&_}
+use mathlib.Core.Bool.{Bool, true, false, _&&_}
 use mathlib.Core.List.{List, [], _∷_, _++_}
 use lib.ListN.{length, getD, take, drop, replicate}
 use lib.Seq.{paste, take-at, take-length}
@@ -18,31 +18,32 @@ use Rattle.order.proofs.Splice.{insert-at, without-at}
 use Rattle.words.specs.declared.Entry.{Entry}
 use Rattle.words.specs.declared.Back.the-variants as backed
 use Rattle.model.specs.Row.{Row, key}
-use Rattle.model.specs.Cell.{to}
+use Rattle.model.specs.Cell.{to, put}
 use Rattle.model.specs.Layer.{Edit, at, add, strike, change, Layer, struck, rowsAfter}
 use Rattle.model.specs.Raw.{numbersOf, layerOf}
 use Rattle.words.specs.Entry.{ADD, STRIKE, addEntry, strikeEntry, changeEntry}
 use Rattle.model.specs.Fit.{keysBelow}
 use Rattle.model.specs.Read.{read}
 use Rattle.model.specs.Position.{base, added, back}
-use Rattle.model.specs.Edits.{before, addRow, strikeBase, strikeRow, changeBase}
+use Rattle.model.specs.Edits.{before, addRow, strikeBase, strikeRow, changeBase, changeAddedRow, changeRowNo}
 use Rattle.model.specs.Calls.{originAnswer}
 use Rattle.theory.proofs.Count.{read-length}
 use Rattle.theory.proofs.Column.{singles, singles-length}
 use Rattle.theory.proofs.Edits.{set-composed}
 use Rattle.theory.proofs.Origin.{Stands, back-row, origin-base, origin-added}
 use Rattle.theory.proofs.Readback.{sound-wide}
-use Rattle.write.specs.declared.Splice.{Splice}
-use Rattle.write.specs.Splice.{entryNumbers}
-use Rattle.write.specs.Plans.{Plans}
+use Rattle.splice.specs.declared.Splice.{Splice}
+use Rattle.store.specs.Numbers.{entryNumbers}
+use Rattle.enter.specs.Move.{Move, entries, number}
+use Rattle.write.specs.Plans.{Splices, Sets, Plans, splices, sets}
 use Rattle.write.proofs.Layers.{Written, strike-numbers, change-numbers}
 use Rattle.landing.specs.Landing.{aim, landing, changesFirst}
 use Rattle.landing.proofs.Landed.{landing-le, lands-after, lands-first}
 use Rattle.landing.proofs.Known.{Known}
 use Rattle.landing.proofs.Shown.{aim-add}
-use Rattle.plan.specs.Out.{outOf}
+use Rattle.plan.specs.Moves.{outOf, oneOf}
 use Rattle.plan.proofs.Struck.{in-turn, strike-splice}
-use Rattle.plan.proofs.Changed.{aim-change, change-splice, first-there}
+use Rattle.plan.proofs.Changed.{aim-change, change-splice, first-there, first-change, value-set, change-at}
 
 -- eight zeros with a row written over their front
 drop-zeros : (n k : ℕ) → drop n (replicate k 0) ≡ replicate {A = ℕ} (k - n) 0
@@ -77,7 +78,7 @@ module _ {c m : ℕ} {raw K : List ℕ} (N : Known c m raw K) where
   pub add-plans : (row : Row) → length row ≡ c → (p i : ℕ) → p ≡ keysBelow (key row) K
       → i ≡ landing (aim p ADD (key row)) L
       → (e : Entry) → e ≡ addEntry p (row ++ replicate (8 - length row) 0)
-      → Plans c L (addRow K row L) (record { i = i; gone = 0; comes = 1; entry = e })
+      → Splices c L (addRow K row L) (record { i = i; gone = 0; comes = 1; entry = e })
   unfolding addRow
   add-plans row l p i ranks lands e f =
       let x = aim p ADD (key row) in
@@ -103,7 +104,7 @@ module _ {c m : ℕ} {raw K : List ℕ} (N : Known c m raw K) where
   pub strike-plans : (s i end : ℕ) → struck s L ≡ false → i ≡ landing (aim s STRIKE 0) L
       → end ≡ landing (aim (s + 1) ADD 0) L
       → (e : Entry) → e ≡ strikeEntry s (getD K s 0)
-      → Plans c L (strikeBase K s L) (record { i = i; gone = end - i; comes = 1; entry = e })
+      → Splices c L (strikeBase K s L) (record { i = i; gone = end - i; comes = 1; entry = e })
   strike-plans s i end u p q e f =
       let h = N .acc .held in
       record {
@@ -115,31 +116,54 @@ module _ {c m : ℕ} {raw K : List ℕ} (N : Known c m raw K) where
         wide = strike-wide s (getD K s 0);
       }
 
-  -- change a cell of a base row: its old change goes, if it has one, and the new one comes in its place
-  pub change-plans : (s j v i k : ℕ) → 1 ≤ j → j < c → i ≡ landing (aim s j 0) L → k ≡ one (changesFirst s j (drop i L))
-      → (e : Entry) → e ≡ changeEntry s j v
-      → Plans c L (changeBase s j (to v) L) (record { i = i; gone = k; comes = 1; entry = e })
-  change-plans s j v i k l g p q e f =
-      let h = N .acc .held in
-      let lands : i ≡ landing (at s (change j (to 0))) L =
-      p ∙ ap (λ (d : Edit). landing d L) (aim-change s j (omega (arith, h .columns))) in
-      let t = changesFirst s j (drop i L) in
-      record {
-        edit = at s (change j (to v));
-        few = omega arith;
-        within = omega (arith, q, first-there s j (to v) L sorted i lands t refl);
-        leads =
-            change-splice s j (to v) L sorted i lands t refl (to v) (sym (set-composed s j v L))
-            ∙ ap (λ (n : ℕ). take i L ++ (at s (change j (to v)) ∷ drop (i + n) L)) (sym q);
-        numbers = ap (entryNumbers c) f ∙ change-numbers c s v (h .some) (h .columns) j;
-        wide =
-            sound-wide c (suc s) (h .some) (at s (change j (to v)))
-            (and-of (ltb s (suc s)) (leb 1 j && ltb j c) (lt-ltb s (suc s) (omega arith))
-            (and-of (leb 1 j) (ltb j c) (le-leb 1 j l) (lt-ltb j c g)));
-      }
+  -- Change a cell of a base row, where i is where its change lands.
+  module _ (s j v i : ℕ) (l : 1 ≤ j) (g : j < c) (p : i ≡ landing (aim s j 0) L) where
+    lands : i ≡ landing (at s (change j (to 0))) L
+    lands = p ∙ ap (λ (d : Edit). landing d L) (aim-change s j (omega (arith, N .acc .held .columns)))
+
+    changed : (t : Bool) → changesFirst s j (drop i L) ≡ t
+        → changeBase s j (to v) L ≡ take i L ++ (at s (change j (to v)) ∷ drop (i + one t) L)
+    changed t q = change-splice s j (to v) L sorted i lands t q (to v) (sym (set-composed s j v L))
+
+    -- it has none: the new one comes
+    change-comes : changesFirst s j (drop i L) ≡ false → (e : Entry) → e ≡ changeEntry s j v
+        → Splices c L (changeBase s j (to v) L) (record { i = i; gone = 0; comes = 1; entry = e })
+    change-comes q e f =
+        let h = N .acc .held in
+        record {
+          edit = at s (change j (to v));
+          few = omega arith;
+          within = omega (arith, first-there s j (to v) L sorted i lands false q);
+          leads = changed false q;
+          numbers = ap (entryNumbers c) f ∙ change-numbers c s v (h .some) (h .columns) j;
+          wide =
+              sound-wide c (suc s) (h .some) (at s (change j (to v)))
+              (and-of (ltb s (suc s)) (leb 1 j && ltb j c) (lt-ltb s (suc s) (omega arith))
+              (and-of (leb 1 j) (ltb j c) (le-leb 1 j l) (lt-ltb j c g)));
+        }
+
+    -- it has one: that gets the value
+    change-stands : changesFirst s j (drop i L) ≡ true
+        → Sets c L (changeBase s j (to v) L) (record { i = i; j = 0; v = v })
+    change-stands q =
+        let w = first-change s j i L q in
+        record {
+          old = at s (change j (w .0));
+          new = at s (change j (to v));
+          there = w .1;
+          column = omega arith;
+          leads = changed true q;
+          numbers = value-set c s j v (w .0);
+        }
+
+    pub change-plans : (t : Bool) → t ≡ changesFirst s j (drop i L) → (e : Entry) → e ≡ changeEntry s j v
+        → Plans c L (changeBase s j (to v) L)
+        (oneOf t (record { i = i; j = 0; v = v }) (record { i = i; gone = 0; comes = 1; entry = e }))
+    change-plans true q e f = sets (change-stands (sym q))
+    change-plans false q e f = splices (change-comes (sym q) e f)
 
   -- strike an added row: its entry goes
-  pub out-plans : (i : ℕ) → i < length L → Plans c L (without i L) (outOf i)
+  pub out-plans : (i : ℕ) → i < length L → Splices c L (without i L) (outOf i)
   out-plans i l =
       let h = N .acc .held in
       record {
@@ -175,14 +199,35 @@ module _ {c m : ℕ} {raw K : List ℕ} (N : Known c m raw K) where
         let w = subst (Stands (length K) L) o stands in
         (o, w .0, w .1, w .2)
 
-    pub strike-of-base : (s : ℕ) → back (length K) L r ≡ base s → (p : Splice) → Plans c L (strikeBase K s L) p
-        → Plans c L (strikeRow K r L) p
+    pub strike-of-base : (s : ℕ) → back (length K) L r ≡ base s → (p : Splice) → Splices c L (strikeBase K s L) p
+        → Splices c L (strikeRow K r L) p
     unfolding strikeRow
     strike-of-base s o p w = rw o w
 
     pub strike-of-added : (i : ℕ) → originAnswer (back (length K) L r) ≡ backed.Added i
-        → Plans c L (strikeRow K r L) (outOf i)
+        → Splices c L (strikeRow K r L) (outOf i)
     unfolding strikeRow
     strike-of-added i e =
         let w = of-added i e in
         rw (w .0) (out-plans i (omega (arith, at-length (w .3))))
+
+    pub change-of-base : (j v s : ℕ) → back (length K) L r ≡ base s → (p : Move) → Plans c L (changeBase s j (to v) L) p
+        → Plans c L (changeRowNo K r j (to v) L) p
+    unfolding changeRowNo
+    change-of-base j v s o p w = rw o w
+
+    -- change a cell of an added row: its value alone is set
+    pub change-of-added : (j v i : ℕ) → originAnswer (back (length K) L r) ≡ backed.Added i → j < c
+        → Plans c L (changeRowNo K r j (to v) L) (number (record { i = i; j = j; v = v }))
+    unfolding changeRowNo put
+    change-of-added j v i e l =
+        let w = of-added i e in
+        let t : 2 + j ≡ suc (suc j) = omega arith in
+        rw (w .0) (sets {x = record { i = i; j = j; v = v }} (record {
+          old = at (w .1) (add (w .2));
+          new = changeAddedRow j (to v) (at (w .1) (add (w .2)));
+          there = w .3;
+          column = l;
+          leads = change-at i j (to v) (at (w .1) (add (w .2))) L (w .3);
+          numbers = rw t;
+        }))

@@ -1,7 +1,8 @@
-// Which splice an edit of a layer is: found by looking, with nothing written.
+// What an edit does to a layer, one splice or one value set: found by looking, with nothing written.
+use enter::Value;
+use splice::Splice;
 use words::Back;
 use words::Entry;
-use write::Splice;
 ghost use mathlib.Core.Path.{_≡_};
 ghost use mathlib.Core.Bool.{false};
 ghost use mathlib.Core.List.{_++_};
@@ -13,10 +14,10 @@ ghost use Rattle.model.specs.Layer.{struck, rowsAfter};
 ghost use Rattle.model.specs.Raw.{layerOf};
 ghost use Rattle.model.specs.Read.{keysAfter};
 ghost use Rattle.model.specs.Refusals.{shownKey};
-ghost use Rattle.model.specs.Edits.{addRow, strikeBase, strikeRow, changeBase};
-ghost use Rattle.write.specs.Plans.{Plans};
+ghost use Rattle.model.specs.Edits.{addRow, strikeBase, strikeRow, changeBase, changeRowNo};
+ghost use Rattle.write.specs.Plans.{Splices, Plans};
 ghost use Rattle.fit.specs.Ready.{Ready};
-ghost use Rattle.plan.specs.Out.{outOf};
+ghost use Rattle.plan.specs.Moves.{outOf, valueOf, moveOf};
 
 // A row of at most eight values, with zeros behind it.
 fn eight(row: &[u64]) -> [u64; 8]
@@ -39,7 +40,7 @@ pub fn add(c: usize, m: usize, layer: &[u64], keys: &[u64], row: &[u64]) -> Addi
     requires { ⌜ Ready c m (now layer) (now keys) × (length (now row) ≡ c) ⌝ }
     ensures { λ r. ⌜ (let K = now (keys .entry) in let L = layerOf c m (now (layer .entry)) in
         (r .shown ≡ shownKey (key (now (row .entry))) (keysAfter K L))
-        × Plans c L (addRow K (now (row .entry)) L) (r .splice)) ⌝ }
+        × Splices c L (addRow K (now (row .entry)) L) (r .splice)) ⌝ }
 {
     let k = row[0];
     let p = keys::below(k, keys);
@@ -73,7 +74,7 @@ fn out(i: usize) -> Splice
 fn strike_base(c: usize, m: usize, layer: &[u64], keys: &[u64], s: usize) -> Splice
     requires { ⌜ Ready c m (now layer) (now keys) × (s < length (now keys))
         × (struck s (layerOf c m (now layer)) ≡ false) ⌝ }
-    ensures { λ p. ⌜ (let L = layerOf c m (now (layer .entry)) in Plans c L (strikeBase (now (keys .entry)) s L) p) ⌝ }
+    ensures { λ p. ⌜ (let L = layerOf c m (now (layer .entry)) in Splices c L (strikeBase (now (keys .entry)) s L) p) ⌝ }
 {
     let p = s as u64;
     let i = landing::landing(c, m, layer, p, Entry::STRIKE, 0);
@@ -91,7 +92,7 @@ fn strike_base(c: usize, m: usize, layer: &[u64], keys: &[u64], s: usize) -> Spl
 // Strikes row number r, which is shown: an added row's entry goes; a base row loses its changes and gains a strike.
 pub fn strike(c: usize, m: usize, layer: &[u64], keys: &[u64], r: usize) -> Splice
     requires { ⌜ Ready c m (now layer) (now keys) × (r < rowsAfter (length (now keys)) (layerOf c m (now layer))) ⌝ }
-    ensures { λ p. ⌜ (let L = layerOf c m (now (layer .entry)) in Plans c L (strikeRow (now (keys .entry)) r L) p) ⌝ }
+    ensures { λ p. ⌜ (let L = layerOf c m (now (layer .entry)) in Splices c L (strikeRow (now (keys .entry)) r L) p) ⌝ }
 {
     let o = mark::origin_of(c, keys.len(), m, layer, r);
     match o {
@@ -101,8 +102,15 @@ pub fn strike(c: usize, m: usize, layer: &[u64], keys: &[u64], r: usize) -> Spli
     }
 }
 
-// Changes column j of base row s to v: the change of that column is replaced, or entered in column order.
-pub fn change_base(
+// A change: one value set, if `alone`, else a splice.
+pub struct Changing {
+    pub alone: bool,
+    pub value: Value,
+    pub splice: Splice,
+}
+
+// Changes column j of base row s to v: the change of that column gets the value, or a new one is entered in column order.
+fn change_base(
     c: usize,
     m: usize,
     layer: &[u64],
@@ -110,19 +118,62 @@ pub fn change_base(
     s: usize,
     j: usize,
     v: u64,
-) -> Splice
+) -> Changing
     requires { ⌜ Ready c m (now layer) (now keys) × (s < length (now keys)) × (1 ≤ j) × (j < c) ⌝ }
-    ensures { λ p. ⌜ (let L = layerOf c m (now (layer .entry)) in Plans c L (changeBase s j (to v) L) p) ⌝ }
+    ensures { λ p. ⌜ (let L = layerOf c m (now (layer .entry)) in Plans c L (changeBase s j (to v) L) (moveOf p)) ⌝ }
 {
     let p = s as u64;
     let column = j as u64;
     let i = landing::landing(c, m, layer, p, column, 0);
-    let old = entry::one_if(landing::changes(c, m, layer, i, p, column));
+    let alone = landing::changes(c, m, layer, i, p, column);
     let entry = Entry::change(p, column, v);
-    Splice {
+    let value = Value { i, j: 0, v };
+    let splice = Splice {
         i,
-        gone: old,
+        gone: 0,
         comes: 1,
         entry,
+    };
+    Changing {
+        alone,
+        value,
+        splice,
+    }
+}
+
+// Value j of entry number i becomes v.
+fn own_value(i: usize, j: usize, v: u64) -> Changing
+    ensures { λ p. ⌜ p ≡ valueOf i j v ⌝ }
+{
+    let value = Value { i, j, v };
+    let splice = out(i);
+    Changing {
+        alone: true,
+        value,
+        splice,
+    }
+}
+
+// Changes column j of row number r, which is shown, to v: an added row gets the value; a base row's change of j gets it, or
+// is entered in column order.
+pub fn change(
+    c: usize,
+    m: usize,
+    layer: &[u64],
+    keys: &[u64],
+    r: usize,
+    j: usize,
+    v: u64,
+) -> Changing
+    requires { ⌜ Ready c m (now layer) (now keys) × (r < rowsAfter (length (now keys)) (layerOf c m (now layer)))
+        × (1 ≤ j) × (j < c) ⌝ }
+    ensures { λ p. ⌜ (let L = layerOf c m (now (layer .entry)) in
+        Plans c L (changeRowNo (now (keys .entry)) r j (to v) L) (moveOf p)) ⌝ }
+{
+    let o = mark::origin_of(c, keys.len(), m, layer, r);
+    match o {
+        Back::Base(s) => change_base(c, m, layer, keys, s, j, v),
+        Back::Added(i) => own_value(i, j, v),
+        Back::Refused(_) => own_value(0, j, v),
     }
 }

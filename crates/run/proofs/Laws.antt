@@ -1,4 +1,4 @@
--- A run pasted into a list: one more number of it, what stands before and after it, a run behind another.
+-- A run pasted into a list: one more number of it, what stands before and after it, a run behind another, runs apart.
 -- Assumes nothing.
 use Prim.Native.Nat.{ℕ, suc, _+_, _-_, _≤_, _<_}
 use native.Mathlib.Numerals.{add-one}
@@ -6,15 +6,48 @@ use native.Mathlib.Nat.{add-assoc, zero-add}
 use native.Mathlib.Omega.{arith}
 use mathlib.Core.Path.{_≡_, sym, ap, _∙_}
 use mathlib.Core.List.{List, _∷_, _++_, append-assoc, append-nil}
-use lib.ListN.{length, getD, take, drop, set, length-append, length-drop, drop-of-length-le, List·getD-append}
+use lib.ListN.{length, getD, take, drop, set, length-append, length-drop, drop-of-length-le, take-append-drop, List·getD-append}
 use borrow.Rule.Slice.PartMut.{putMid, post-is}
-use lib.Seq.{paste, paste-suc, take-paste, drop-paste, drop-drop, take-append-add, take-all, take-length, length-take-le, take-suc, drop-cons, set-at, getD-take, getD-drop}
+use lib.Seq.{
+  paste,
+  paste-suc,
+  length-paste-head,
+  take-paste,
+  drop-paste,
+  drop-drop,
+  take-take,
+  take-add,
+  drop-at,
+  take-append-le,
+  take-append-add,
+  take-all,
+  take-length,
+  length-take-le,
+  take-suc,
+  drop-cons,
+  set-at,
+  getD-take,
+  getD-drop,
+}
 
 -- one more number of the run
 pub copy-more : (d d₀ s : List ℕ) (at j o v : ℕ) → o ≡ at + j → d ≡ paste d₀ at s j → at + j < length d₀ → j < length s
     → v ≡ getD s j 0 → set d o v ≡ paste d₀ at s (j + 1)
 copy-more d d₀ s at j o v eo ed h k ev =
     rw (eo, ed, ev) (paste-suc d₀ at s j 0 h k ∙ ap (paste d₀ at s) (sym (add-one j)))
+
+-- number a of the one slice to b of the other, those before it being copied
+pub copy-one : (xs old : List ℕ) (from o : ℕ) (d : List ℕ) (a b : ℕ) → from ≤ a → b + from ≡ o + a → a < length xs
+    → b < length old
+    → d ≡ paste old o (drop from xs) (a - from)
+    → set d b (getD xs a 0) ≡ paste old o (drop from xs) (a + 1 - from)
+copy-one xs old from o d a b l e h g w =
+    let n : (a - from) + 1 ≡ a + 1 - from = omega arith in
+    let v : getD xs a 0 ≡ getD (drop from xs) (a - from) 0 =
+    sym (getD-drop from xs (a - from) 0 ∙ ap (λ (i : ℕ). getD xs i 0) (omega arith)) in
+    copy-more d old (drop from xs) o (a - from) b (getD xs a 0) (omega arith) w (omega arith)
+    (omega (arith, length-drop from xs)) v
+    ∙ ap (paste old o (drop from xs)) n
 
 -- a whole list of the same length is the run itself
 pub paste-whole : (d s : List ℕ) (n : ℕ) → length s ≡ length d → n ≡ length s → paste d 0 s n ≡ s
@@ -58,6 +91,67 @@ paste-paste d s t at n k hd hs =
       append-assoc (take at d) (take n s) (take k t),
       add-assoc at n k,
     )
+
+-- a list's own numbers pasted where they stand
+pub paste-own : (d : List ℕ) (at n : ℕ) → d ≡ paste d at (drop at d) n
+paste-own d at n =
+    sym (rw (
+      append-assoc (take at d) (take n (drop at d)) (drop (at + n) d),
+      ← drop-drop n at d,
+      take-append-drop n (drop at d),
+    ) (take-append-drop at d))
+
+-- the numbers before a run
+pub take-before : (d s : List ℕ) (at n i : ℕ) → i ≤ at → at ≤ length d → take i (paste d at s n) ≡ take i d
+take-before d s at n i h k =
+    let l = length-take-le at d k in
+    take-append-le i (take at d ++ take n s) (drop (at + n) d)
+    (omega (arith, length-append (take at d) (take n s)))
+    ∙ take-append-le i (take at d) (take n s) (omega arith)
+    ∙ take-take i at d h
+
+-- and those from a place past it on
+pub drop-past : (d s : List ℕ) (at n i : ℕ) → at + n ≤ i → at ≤ length d → n ≤ length s → drop i (paste d at s n) ≡ drop i d
+drop-past d s at n i h k l =
+    let e : i ≡ at + n + (i - (at + n)) = omega arith in
+    rw (e, ← drop-drop (i - (at + n)) (at + n) (paste d at s n), drop-paste d at s n k l)
+    (drop-drop (i - (at + n)) (at + n) d)
+
+-- Two runs apart from each other: one ends at or before b, the other starts at b. What stands between them stays.
+module _ (d s t : List ℕ) (at n b k : ℕ) (h : at + n ≤ b) (r : b ≤ length d) (l : n ≤ length s) where
+  abbrev between : List ℕ
+  between = take (b - (at + n)) (drop (at + n) d)
+
+  upto : b ≡ at + n + (b - (at + n))
+  upto = omega arith
+
+  low : take b (paste d at s n) ≡ take at d ++ take n s ++ between
+  low =
+      ap (λ (x : ℕ). take x (paste d at s n)) upto
+      ∙ ap (λ (x : ℕ). take (x + (b - (at + n))) (paste d at s n)) (sym (length-paste-head d at s n (omega arith) l))
+      ∙ take-append-add (take at d ++ take n s) (drop (at + n) d) (b - (at + n))
+
+  high : drop (at + n) (paste d b t k) ≡ between ++ take k t ++ drop (b + k) d
+  high =
+      let e : take b d ≡ take (at + n) d ++ between =
+      ap (λ (x : ℕ). take x d) upto ∙ take-add (at + n) (b - (at + n)) d in
+      ap (λ (x : List ℕ). drop (at + n) (x ++ take k t ++ drop (b + k) d)) e
+      ∙ rw (
+        append-assoc (take (at + n) d) between (take k t),
+        append-assoc (take (at + n) d) (between ++ take k t) (drop (b + k) d),
+      )
+      (drop-at (take (at + n) d) _ (at + n) (length-take-le (at + n) d (omega arith)))
+
+  -- either may be pasted first
+  pub paste-apart : paste (paste d at s n) b t k ≡ paste (paste d b t k) at s n
+  paste-apart =
+      rw (
+        low,
+        drop-past d s at n (b + k) (omega arith) (omega arith) l,
+        high,
+        take-before d t b k at (omega arith) r,
+      )
+      (simp append-assoc)
 
 -- one more number, in front of the run: those from i + 1 up to b are moved up by w, and number i follows
 module _ (xs : List ℕ) (i b w : ℕ) (h : i < b) (r : b + w ≤ length xs) where
@@ -103,11 +197,7 @@ pub down-more : (ys xs : List ℕ) (a k b w : ℕ) → w ≤ a → a ≤ k → k
     → set ys (k - w) (getD ys k 0) ≡ paste xs (a - w) (drop a xs) (k + 1 - a)
 down-more ys xs a k b w h i l r e =
     let d = length-drop a xs in
-    let q : a + (k - a) ≡ k = omega arith in
-    let v : getD ys k 0 ≡ getD (drop a xs) (k - a) 0 =
+    let v : getD ys k 0 ≡ getD xs k 0 =
     ap (λ (t : List ℕ). getD t k 0) e
-    ∙ past-paste xs (drop a xs) (a - w) (k - a) k (omega arith) (omega arith) (omega arith)
-    ∙ sym (getD-drop a xs (k - a) 0 ∙ ap (λ (n : ℕ). getD xs n 0) q) in
-    let s : k - a + 1 ≡ k + 1 - a = omega arith in
-    copy-more ys xs (drop a xs) (a - w) (k - a) (k - w) (getD ys k 0) (omega arith) e (omega arith) (omega arith) v
-    ∙ ap (paste xs (a - w) (drop a xs)) s
+    ∙ past-paste xs (drop a xs) (a - w) (k - a) k (omega arith) (omega arith) (omega arith) in
+    ap (set ys (k - w)) v ∙ copy-one xs xs a (a - w) ys k (k - w) i (omega arith) (omega arith) (omega arith) e

@@ -47,7 +47,7 @@ pub fn base_good(c: usize, n: usize, s: u64, k: u64) -> bool
 }
 
 // The entry from `at` breaks no rule alone.
-fn alone_good(c: usize, n: usize, at: usize, layer: &[u64]) -> bool
+pub fn alone_good(c: usize, n: usize, at: usize, layer: &[u64]) -> bool
     requires { ⌜ at + (c + 2) ≤ length (now layer) ⌝ }
     ensures { λ r. ⌜ r ≡ aloneGood c n (entryAt c at (now (layer .entry))) ⌝ }
 {

@@ -15,7 +15,7 @@ pub fn strike(c: usize, m: usize, layer: &mut [u64], keys: &[u64], r: usize) -> 
                 return Answer::refused(5, 0);
             }
             let p = plan::strike(c, m, layer, keys, r);
-            write::enter(c, m, p, layer)
+            enter::enter(c, m, p, layer)
         }
     }
 }

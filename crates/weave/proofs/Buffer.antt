@@ -7,11 +7,11 @@ use Prim.Native.Nat.{ℕ, suc, _+_, _-_, _≤_, _<_}
 use native.Mathlib.Omega.{arith}
 use lib.ListN.{length, getD, set, take, drop, length-append, length-drop, length-set}
 use lib.Seq.{paste, length-paste, take-paste, drop-paste, take-length, length-take-le, take-suc-set, drop-set-lt}
-use lib.Seq.{take-at, drop-at, take-take, drop-drop, drop-cons, getD-drop}
+use lib.Seq.{take-at, drop-at, take-take, drop-drop, drop-cons}
 use borrow.Rule.Slice.PartMut.{putMid}
 use Rattle.order.proofs.Splice.{part}
 use Rattle.order.proofs.Tests.{impossible}
-use Rattle.run.proofs.Laws.{copy-more, put-back}
+use Rattle.run.proofs.Laws.{put-back}
 use Rattle.weave.specs.Written.{Put, PutIf}
 
 -- nothing written
@@ -95,32 +95,6 @@ put-join xs ys old mid new o e n v w =
           ∙ (w .front ∙ (ap (λ (t : List ℕ). t ++ ys) f ∙ append-assoc (take o old) xs ys));
       behind = behind-on ys old mid new e (o + length (xs ++ ys)) (sym l) b w;
     }
-
--- numbers copied one more, and two more: number a of the one slice to b of the other
-module _ (xs old : List ℕ) (from o : ℕ) where
-  copy-one : (d : List ℕ) (a b : ℕ) → from ≤ a → b + from ≡ o + a → a < length xs → b < length old
-      → d ≡ paste old o (drop from xs) (a - from)
-      → set d b (getD xs a 0) ≡ paste old o (drop from xs) (a + 1 - from)
-  copy-one d a b l e h g w =
-      let n : (a - from) + 1 ≡ a + 1 - from = omega arith in
-      let v : getD xs a 0 ≡ getD (drop from xs) (a - from) 0 =
-      sym (getD-drop from xs (a - from) 0 ∙ ap (λ (i : ℕ). getD xs i 0) (omega arith)) in
-      copy-more d old (drop from xs) o (a - from) b (getD xs a 0) (omega arith) w (omega arith)
-      (omega (arith, length-drop from xs)) v
-      ∙ ap (paste old o (drop from xs)) n
-
-  pub copy-last : (d : List ℕ) (a b end : ℕ) → from ≤ a → b + from ≡ o + a → a < length xs → b < length old → a + 1 ≡ end
-      → d ≡ paste old o (drop from xs) (a - from)
-      → set d b (getD xs a 0) ≡ paste old o (drop from xs) (end - from)
-  copy-last d a b end l e h g n w =
-      copy-one d a b l e h g w ∙ ap (λ (i : ℕ). paste old o (drop from xs) (i - from)) n
-
-  pub copy-two : (d : List ℕ) (a b : ℕ) → from ≤ a → b + from ≡ o + a → a + 1 < length xs → b + 1 < length old
-      → d ≡ paste old o (drop from xs) (a - from)
-      → set (set d b (getD xs a 0)) (b + 1) (getD xs (a + 1) 0) ≡ paste old o (drop from xs) (a + 2 - from)
-  copy-two d a b l e h g w =
-      copy-last (set d b (getD xs a 0)) (a + 1) (b + 1) (a + 2) (omega arith) (omega arith) h g (omega arith)
-      (copy-one d a b l e (omega arith) (omega arith) w)
 
 -- an entry written at position p: three numbers one by one, and the rest copied
 pub put-entry : (c p from o : ℕ) (xs old new : List ℕ) → from + (c + 2) ≤ length xs → o + (c + 2) ≤ length old → 1 ≤ c

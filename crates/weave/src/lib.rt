@@ -8,33 +8,11 @@ ghost use mathlib.Core.Bool.{true};
 ghost use mathlib.Core.List.{_∷_};
 ghost use Prim.Native.Nat.{_+_, _*_, _-_, _≤_};
 ghost use lib.ListN.{length, take, drop};
-ghost use lib.Seq.{paste};
 ghost use Rattle.model.specs.Raw.{entryAt, layerOf, flat};
 ghost use Rattle.woven.specs.Woven.{patched, wovenLayer};
 ghost use Rattle.over.specs.Over.{over};
 ghost use Rattle.turn.specs.Turn.{left, Both};
 ghost use Rattle.weave.specs.Written.{Put, PutIf, Row, Leaves, Rest, WovenIf};
-
-// Copies the numbers from `at` up to the end over those from o on, two a turn: both are read before either is written, so
-// that they move as one.
-fn copy_pairs(at: usize, end: usize, layer: &[u64], out: &mut [u64], o: usize)
-    requires { ⌜ (at ≤ end) × (end ≤ length (now layer)) × (o + (end - at) ≤ length (now out)) ⌝ }
-    ensures { λ _. ⌜ now (out .exit) ≡ paste (now (out .entry)) o (drop at (now (layer .entry))) (end - at) ⌝ }
-{
-    let mut a = at;
-    let mut b = o;
-    while a + 1 < end {
-        let x = layer[a];
-        let y = layer[a + 1];
-        out[b] = x;
-        out[b + 1] = y;
-        a += 2;
-        b += 2;
-    }
-    if a < end {
-        out[b] = layer[a];
-    }
-}
 
 // Writes the entry from `at` to the slice from o on, at position p.
 fn put_entry(c: usize, p: u64, at: usize, layer: &[u64], out: &mut [u64], o: usize)
@@ -47,7 +25,7 @@ fn put_entry(c: usize, p: u64, at: usize, layer: &[u64], out: &mut [u64], o: usi
     let first = layer[at + 2];
     out[o + 1] = kind;
     out[o + 2] = first;
-    copy_pairs(at + 3, at + (c + 2), layer, out, o + 3);
+    pairs::copy_pairs(at + 3, at + (c + 2), layer, out, o + 3);
 }
 
 // Makes the changes at p that stand from a cursor on to a row.

@@ -1,2 +1,1 @@
-pub mod Splice
 pub mod Plans

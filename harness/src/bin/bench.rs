@@ -3,6 +3,7 @@
 
 use harness::calls::{Calls, CARD, PLAIN};
 use harness::scope::{self, Entry, Pair};
+use harness::spread::{keys, spread};
 use std::hint::black_box;
 use std::time::Instant;
 
@@ -62,8 +63,8 @@ impl Clock {
         seen.into_iter().map(|all| median(all) as f64 * self.nanoseconds / times as f64).collect()
     }
 
-    /// A call of the archive and of plain C. Each gets `from` anew in its slice where the call alters it.
-    fn both(&self, times: usize, from: &[u64], alters: bool, call: impl Fn(&Calls, &mut [u64]) -> Pair) -> (f64, f64) {
+    /// A call of the archive and of plain C, each on its own slice, made ready before the time is taken.
+    fn each(&self, times: usize, from: &[u64], ready: impl Fn(&mut [u64]), call: impl Fn(&Calls, &mut [u64]) -> Pair) -> (f64, f64) {
         let mut slices = [from.to_vec(), from.to_vec()];
         for (who, slice) in [&CARD, &PLAIN].into_iter().zip(&mut slices) {
             let answer = call(who, slice);
@@ -74,43 +75,40 @@ impl Clock {
         let step = |who: &'static Calls, slice: &mut [u64], timed: bool| {
             if timed {
                 black_box(call(who, slice));
-            } else if alters {
-                slice.copy_from_slice(from);
+            } else {
+                ready(slice);
             }
         };
-        let times = if alters { 1 } else { times };
         let t = self.medians(times, &mut [&mut |timed| step(&CARD, one, timed), &mut |timed| step(&PLAIN, two, timed)]);
         (t[0], t[1])
     }
+
+    /// The slice is `from` anew where the call alters it.
+    fn both(&self, times: usize, from: &[u64], alters: bool, call: impl Fn(&Calls, &mut [u64]) -> Pair) -> (f64, f64) {
+        if alters {
+            self.each(1, from, |slice| slice.copy_from_slice(from), call)
+        } else {
+            self.each(times, from, |_| (), call)
+        }
+    }
+
+    /// The slice is `from` anew, and no line of it is in a cache.
+    fn slow(&self, from: &[u64], call: impl Fn(&Calls, &mut [u64]) -> Pair) -> (f64, f64) {
+        let ready = |slice: &mut [u64]| {
+            slice.copy_from_slice(from);
+            flush(slice);
+        };
+        self.each(1, from, ready, call)
+    }
 }
 
-/// A table of n rows and a layer of m entries: strikes, changes and adds in turn, spread evenly, none before position `from`.
-fn keys(n: usize) -> Vec<u64> {
-    (0..n as u64).map(|i| 10 * i + 5).collect()
-}
-
-fn spread(c: usize, keys: &[u64], m: usize, from: usize) -> Vec<Entry> {
-    (0..m)
-        .map(|i| {
-            let s = i * keys.len() / m.max(1) + from;
-            let mut vals = vec![0; c];
-            match i % 3 {
-                0 => {
-                    vals[0] = keys[s];
-                    Entry { pos: s as u64, kind: scope::STRIKE, vals }
-                }
-                1 => {
-                    vals[0] = 77;
-                    Entry { pos: s as u64, kind: 1 + (i / 3 % (c - 1)) as u64, vals }
-                }
-                _ => {
-                    vals.fill(9);
-                    vals[0] = keys[s] - 1;
-                    Entry { pos: s as u64, kind: scope::ADD, vals }
-                }
-            }
-        })
-        .collect()
+/// Drops every line of a slice from the caches.
+fn flush(slice: &[u64]) {
+    use std::arch::x86_64::{_mm_clflush, _mm_mfence};
+    for number in slice.iter().step_by(8).chain(slice.last()) {
+        unsafe { _mm_clflush((number as *const u64).cast()) };
+    }
+    unsafe { _mm_mfence() };
 }
 
 fn padded(c: usize, layer: &[Entry]) -> Vec<u64> {
@@ -159,6 +157,30 @@ fn all(clock: &Clock, c: usize, n: usize, m: usize) -> Vec<(f64, f64)> {
         clock.both(1, l, true, |w, l| w.change(c, few, l, k, r, 1, 5)),
         clock.both(1, x, true, |w, x| w.move_past(c, k, m, x, m, y)),
         clock.both(2, &third, false, |w, o| w.combine(c, k, m / 2, lo, m / 2, up, o)),
+    ]
+}
+
+const EDITS: [&str; 4] = ["add", "strike", "change entered", "change replaced"];
+
+/// The times of the edits on a layer that is in no cache, in its middle, otherwise as in `all`.
+fn slow(clock: &Clock, c: usize, n: usize, m: usize) -> Vec<(f64, f64)> {
+    let few = m.min(511);
+    let k = &keys(n)[..];
+    let layer = spread(c, k, few, 0);
+    let l = &padded(c, &layer)[..];
+    let short = &k[..n - 1];
+    let ls = &padded(c, &spread(c, short, few, 0))[..];
+    let mut row = vec![1; c];
+    row[0] = k[n / 2] + 3;
+    let quiet = (n / 2..n).find(|s| layer.iter().all(|e| e.pos != *s as u64)).unwrap();
+    let r = CARD.row(c, n, few, l, quiet).1 as usize;
+    let own = layer[few / 2..].iter().find(|e| e.is_change()).unwrap();
+    let (there, j) = (CARD.row(c, n, few, l, own.pos as usize).1 as usize, own.kind as usize);
+    vec![
+        clock.slow(ls, |w, l| w.add(c, few, l, short, &row)),
+        clock.slow(l, |w, l| w.strike(c, few, l, k, r)),
+        clock.slow(l, |w, l| w.change(c, few, l, k, r, 1, 5)),
+        clock.slow(l, |w, l| w.change(c, few, l, k, there, j, 5)),
     ]
 }
 
@@ -241,6 +263,19 @@ fn main() {
                 _ => by_key >= 3.0 * read,
             };
             println!("| {c} | {m} | {read:.0} | {copy:.0} | {by_key:.0} | {:.2}{} |", by_key / read, mark(kept));
+        }
+    }    println!("\nEdits with the layer in slow memory, n = 4,096: before each timed call every line of the slice is flushed from the caches (clflush), for both alike,");
+    println!("so that the first load or store of a line goes to memory; the keys, the row and the code stay cached.\n");
+    println!("| call | c | m = 16 | m = 64 | m = 512 |\n|---|---|---|---|---|");
+    for c in [3, 8] {
+        let at: Vec<_> = sizes[1..].iter().map(|m| slow(&clock, c, 4096, *m)).collect();
+        for (i, name) in EDITS.iter().enumerate() {
+            print!("| {name} | {c} ");
+            for t in &at {
+                let (mine, plain) = t[i];
+                print!("| {mine:.0} / {plain:.0} = {:.2} ", mine / plain);
+            }
+            println!("|");
         }
     }
 }

@@ -14,6 +14,7 @@ use Rattle.model.specs.Refusals.{shownKey}
 use Rattle.model.specs.Calls.{readyAnswer, addAnswer}
 use Rattle.fit.proofs.Answers.{is-ready, rows-shown}
 use Rattle.landing.proofs.Known.{Known, known}
+use Rattle.write.specs.Plans.{splices}
 use Rattle.plan.proofs.Answers.{may-enter, enters, as-before, go-on}
 use Rattle.add.proofs.Answers.{
   addRest,
@@ -139,7 +140,7 @@ returns-4 c =
 enter-requires : tie.Need-enter-requires
 enter-requires c κs =
     let e = c .before .before .before .before in
-    may-enter (knows (e .before .before .before)) (e .add .ensures .1)
+    may-enter (knows (e .before .before .before)) (splices (e .add .ensures .1))
 
 same-length-4 : tie.Need-same-length-4
 same-length-4 c = search needs
@@ -165,7 +166,7 @@ returns-6 c =
     enters (a .c) (a .m) (a .layer .now) _ _ (knows d)
     (add-last (a .c) (a .m) (a .layer .now) (a .keys .now) (a .row .now) (knows d) (free f)
     (omega (arith, shown d, c .before .before .before .before .before .if3 .left)) ∙ rest d)
-    (e .add .ensures .1) _ _ (c .before .before .enter .ensures)
+    (splices (e .add .ensures .1)) _ _ (c .before .before .enter .ensures)
 
 pub add-spec : {M : Type 1} → statement M
 add-spec =

@@ -1,4 +1,4 @@
--- `change::change` meets its contract: the refusals in the table's order, then the splice is entered, or the cell stored.
+-- `change::change` meets its contract: the refusals in the table's order, then one value is set or the splice entered.
 -- Assumes nothing.
 use borrow.Author.Needs.{needs}
 use native.Mathlib.Omega.{arith}
@@ -6,15 +6,16 @@ use mathlib.Core.Path.{_≡_, refl, sym, _∙_}
 use Prim.Native.Nat.{_<_}
 use lib.ListN.{length}
 use Rattle.words.specs.declared.Answer.the-variants.{Done, Refused}
+use Rattle.model.specs.Cell.{to}
 use Rattle.model.specs.Layer.{rowsAfter}
 use Rattle.model.specs.Raw.{layerOf}
-use Rattle.model.specs.Position.{back}
-use Rattle.model.specs.Calls.{readyAnswer, originAnswer, changeAnswer}
-use Rattle.theory.proofs.Origin.{origin-never}
+use Rattle.model.specs.Edits.{changeRowNo}
+use Rattle.model.specs.Calls.{readyAnswer, changeAnswer}
+use Rattle.enter.specs.Move.{entries, number}
+use Rattle.write.specs.Plans.{Plans}
 use Rattle.fit.proofs.Answers.{is-ready, rows-shown}
 use Rattle.landing.proofs.Known.{Known, known}
-use Rattle.plan.proofs.Planned.{of-base}
-use Rattle.plan.proofs.Answers.{may-enter, enters, as-before, go-on}
+use Rattle.plan.proofs.Answers.{last, may-enter, enters, stores, as-before, go-on}
 use Rattle.change.proofs.Answers.{
   changeRest,
   change-refuses,
@@ -23,9 +24,6 @@ use Rattle.change.proofs.Answers.{
   change-no-row,
   change-key,
   change-last,
-  change-of-base,
-  change-of-added,
-  change-stores,
 }
 use Rattle.change.proofs.change.Statement.{statement}
 use Rattle.change.proofs.change.Tie as tie
@@ -108,61 +106,67 @@ returns-3 c =
     (change-key (a .c) (a .m) (a .layer .now) (a .keys .now) (a .r) (a .j) (a .v) (below q) (c .before .if3 .taken)
     ∙ rest d)
 
-origin-of-requires : tie.Need-origin-of-requires
-origin-of-requires c κs =
-    let q = c .before .before in
-    let k = knows (q .before .before) .acc in
-    (k .held, k .base, k .ordered, below q)
-
--- what stands behind the row number
-origin : (c : tie.After-origin-of) →
-    let a = c .before .before .before .before .before .before .before .before .before .before .before .before .args in
-    originAnswer (back (length (a .keys .now)) (layerOf (a .c) (a .m) (a .layer .now)) (a .r)) ≡ c .origin-of .result
-origin c = sym (c .origin-of .ensures)
-
-enum-known-s : tie.Need-enum-known-s
-enum-known-s c = search needs
-
-change-base-requires : tie.Need-change-base-requires
-change-base-requires c κs =
-    let o = c .before .before .before .before in
-    let q = o .before .before .before in
+change-requires : tie.Need-change-requires
+change-requires c κs =
+    let e = c .before in
+    let q = e .before in
     let d = q .before .before in
-    let a = d .before .before .before .before .before .before .before .args in (
-      is-ready _ _ _ _ _ (passed d),
-      of-base (knows d) (a .r) (below q) _ (origin o ∙ c .before .before .s .given .1) .1,
-      omega (arith, o .before .before .if3 .left),
-      column (d .before .before),
-    )
+    (is-ready _ _ _ _ _ (passed d), below q, omega (arith, e .if3 .left), column (d .before .before))
 
-enter-requires : tie.Need-enter-requires
-enter-requires c κs =
-    let o = c .before .before .before .before .before .before in
-    may-enter (knows (o .before .before .before .before .before)) (c .before .change-base .ensures)
+-- what the change does leads to the changed layer
+alone : (c : tie.Then4) →
+    let a = c .before .before .before .before .before .before .before .before .before .before .before .before .before .args in
+    Plans (a .c) (layerOf (a .c) (a .m) (a .layer .now))
+    (changeRowNo (a .keys .now) (a .r) (a .j) (to (a .v)) (layerOf (a .c) (a .m) (a .layer .now)))
+    (number (c .before .change .result .value))
+alone c = rw (c .if4 .taken) at (c .before .change .ensures)
 
-enum-known-i : tie.Need-enum-known-i
-enum-known-i c = search needs
+spliced : (c : tie.Else4) →
+    let a = c .before .before .before .before .before .before .before .before .before .before .before .before .before .args in
+    Plans (a .c) (layerOf (a .c) (a .m) (a .layer .now))
+    (changeRowNo (a .keys .now) (a .r) (a .j) (to (a .v)) (layerOf (a .c) (a .m) (a .layer .now)))
+    (entries (c .before .change .result .splice))
+spliced c = rw (c .if4 .left) at (c .before .change .ensures)
+
+-- the call's answer is that of the room
+last-row : (c : tie.Else3) →
+    let a = c .before .before .before .before .before .before .before .before .before .before .args in
+    last (a .c) (a .layer .now)
+    (changeRowNo (a .keys .now) (a .r) (a .j) (to (a .v)) (layerOf (a .c) (a .m) (a .layer .now)))
+    ≡ changeAnswer (a .c) (a .m) (a .layer .now) (a .keys .now) (a .r) (a .j) (a .v)
+last-row c =
+    let q = c .before in
+    let d = q .before .before in
+    let a = d .before .before .before .before .before .before .before .args in
+    change-last (a .c) (a .m) (a .layer .now) (a .keys .now) (a .r) (a .j) (a .v) (below q) (c .if3 .left) ∙ rest d
 
 set-value-requires : tie.Need-set-value-requires
 set-value-requires c κs =
-    let o = c .before .before .before .before in
-    let q = o .before .before .before in
-    let d = q .before .before in
-    let a = d .before .before .before .before .before .before .before .args in (
-      knows d .acc .held,
-      change-of-added (a .c) (a .m) (a .layer .now) (a .keys .now) (a .r) (a .j) (a .v) (below q) (knows d) _
-          (origin o ∙ c .before .before .i .given .1) (column (d .before .before)) .0,
-      omega (arith, knows d .acc .held .some, column (d .before .before)),
-    )
-
-enum-known-x-2 : tie.Need-enum-known-x-2
-enum-known-x-2 c = search needs
+    let t = c .before .before in
+    may-enter (knows (t .before .before .before .before .before .before)) (alone t)
 
 same-length-3 : tie.Need-same-length-3
 same-length-3 c = search needs
 
 returns-4 : tie.Need-returns-4
 returns-4 c =
+    let z = c .before .before in
+    let t = z .before .before .before in
+    let e = t .before .before .before in
+    let d = e .before .before .before in
+    let a = d .before .before .before .before .before .before .before .args in
+    stores (a .c) (a .m) (a .layer .now) _ _ (knows d) (last-row e) (alone t) _ (z .set-value .ensures)
+
+enter-requires : tie.Need-enter-requires
+enter-requires c κs =
+    let t = c .before .before in
+    may-enter (knows (t .before .before .before .before .before .before)) (spliced t)
+
+same-length-4 : tie.Need-same-length-4
+same-length-4 c = search needs
+
+returns-5 : tie.Need-returns-5
+returns-5 c =
     let d = c .before in
     let a = d .before .before .before .before .before .before .before .args in
     change-refuses (a .c) (a .m) (a .layer .now) (a .keys .now) (a .r) (a .j) (a .v) (Refused (d .x .given .0 .0)) _ refl
@@ -170,49 +174,17 @@ returns-4 c =
     (change-column (a .c) (a .m) (a .layer .now) (a .keys .now) (a .r) (a .j) (a .v) (column (d .before .before))) _
     (sym (d .before .before .ready .ensures) ∙ d .x .given .1))
 
-same-length-4 : tie.Need-same-length-4
-same-length-4 c = search needs
-
-returns-5 : tie.Need-returns-5
-returns-5 c =
-    let e = c .before .before .before .before in
-    let s = e .before .before .before in
-    let o = s .before .before in
-    let q = o .before .before .before in
-    let d = q .before .before in
-    let a = d .before .before .before .before .before .before .before .args in
-    enters (a .c) (a .m) (a .layer .now) _ _ (knows d)
-    (change-last (a .c) (a .m) (a .layer .now) (a .keys .now) (a .r) (a .j) (a .v) (below q)
-    (o .before .before .if3 .left) ∙ rest d)
-    (change-of-base (a .c) (a .m) (a .layer .now) (a .keys .now) (a .r) (a .j) (a .v) (below q) _
-    (of-base (knows d) (a .r) (below q) _ (origin o ∙ s .s .given .1) .0) (e .change-base .ensures))
-    _ _ (c .before .before .enter .ensures)
-
 same-length-5 : tie.Need-same-length-5
 same-length-5 c = search needs
 
 returns-6 : tie.Need-returns-6
 returns-6 c =
-    let i = c .before .before .before .before .before in
-    let o = i .before .before in
-    let q = o .before .before .before in
-    let d = q .before .before in
+    let z = c .before .before in
+    let t = z .before .before .before in
+    let e = t .before .before .before in
+    let d = e .before .before .before in
     let a = d .before .before .before .before .before .before .before .args in
-    change-stores (a .c) (a .m) (a .layer .now) (a .keys .now) (a .r) (a .j) (a .v) (below q) (knows d) _
-    (origin o ∙ i .i .given .1) (column (d .before .before))
-    (change-last (a .c) (a .m) (a .layer .now) (a .keys .now) (a .r) (a .j) (a .v) (below q)
-    (o .before .before .if3 .left) ∙ rest d)
-    _ (c .before .before .set-value .ensures)
-
-same-length-6 : tie.Need-same-length-6
-same-length-6 c = search needs
-
-returns-7 : tie.Need-returns-7
-returns-7 c =
-    let o = c .before .before .before in
-    let a = o .before .before .before .before .before .before .before .before .before .before .before .before .args in
-    absurd (origin-never (back (length (a .keys .now)) (layerOf (a .c) (a .m) (a .layer .now)) (a .r)) _
-    (origin o ∙ c .before .x2 .given .1))
+    enters (a .c) (a .m) (a .layer .now) _ _ (knows d) (last-row e) (spliced t) _ _ (z .enter .ensures)
 
 pub change-spec : {M : Type 1} → statement M
 change-spec =
@@ -229,18 +201,12 @@ change-spec =
     refused-requires-3
     same-length-2
     returns-3
-    origin-of-requires
-    enum-known-s
-    change-base-requires
-    enter-requires
-    enum-known-i
+    change-requires
     set-value-requires
-    enum-known-x-2
     same-length-3
     returns-4
+    enter-requires
     same-length-4
     returns-5
     same-length-5
-    returns-6
-    same-length-6
-    returns-7)
+    returns-6)

@@ -26,7 +26,7 @@ below-requires : tie.Need-below-requires
 below-requires c κs = search needs
 
 landing-requires : tie.Need-landing-requires
-landing-requires c κs = knows (c .before .before .before .before .before) .acc .held
+landing-requires c κs = let N = knows (c .before .before .before .before .before) in (N .acc .held, N .good .fit .sorted)
 
 is-shown-requires : tie.Need-is-shown-requires
 is-shown-requires c κs = search needs

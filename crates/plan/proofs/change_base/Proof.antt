@@ -2,9 +2,6 @@
 -- Assumes nothing.
 use borrow.Author.Needs.{needs}
 use native.Mathlib.Omega.{arith}
-use mathlib.Core.Path.{ap, _∙_}
-use mathlib.Core.Bool.{Bool}
-use Rattle.order.specs.Lists.{one}
 use Rattle.model.specs.Raw.{layerOf}
 use Rattle.landing.specs.Landing.{aim}
 use Rattle.landing.proofs.Landed.{landing-le}
@@ -17,7 +14,7 @@ knows : (c : tie.Start) → let a = c .args in Known (a .c) (a .m) (a .layer .no
 knows c = known (c .pre .0)
 
 landing-requires : tie.Need-landing-requires
-landing-requires c κs = knows (c .before .before) .acc .held
+landing-requires c κs = let N = knows (c .before .before) in (N .acc .held, N .good .fit .sorted)
 
 changes-requires : tie.Need-changes-requires
 changes-requires c κs =
@@ -33,21 +30,16 @@ changes-requires c κs =
       ),
     )
 
-one-if-requires : tie.Need-one-if-requires
-one-if-requires c κs = search needs
-
 change-requires : tie.Need-change-requires
 change-requires c κs = search needs
 
 returns : tie.Need-returns
 returns c =
-    let d = c .before .before .before in
+    let d = c .before .before in
     let b = d .before .before .before in
     let a = b .args in
-    change-plans (knows b) (a .s) (a .j) (a .v) _ _ (b .pre .2) (b .pre .3) (d .landing .ensures)
-    (c .before .one-if .ensures .0 ∙ ap (λ (t : Bool). one t) (c .before .before .changes .ensures))
-    (c .change .result) (c .change .ensures)
+    change-plans (knows b) (a .s) (a .j) (a .v) _ (b .pre .2) (b .pre .3) (d .landing .ensures) _
+    (c .before .changes .ensures) (c .change .result) (c .change .ensures)
 
 pub change-base-spec : {M : Type 1} → statement M
-change-base-spec =
-    tie.close (tie.spec landing-requires changes-requires one-if-requires change-requires returns)
+change-base-spec = tie.close (tie.spec landing-requires changes-requires change-requires returns)

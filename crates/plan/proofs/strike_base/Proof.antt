@@ -13,13 +13,13 @@ knows : (c : tie.Start) → let a = c .args in Known (a .c) (a .m) (a .layer .no
 knows c = known (c .pre .0)
 
 landing-requires : tie.Need-landing-requires
-landing-requires c κs = knows (c .before .before) .acc .held
+landing-requires c κs = let N = knows (c .before .before) in (N .acc .held, N .good .fit .sorted)
 
 add-landing : tie.Need-add-landing
 add-landing c = search needs
 
 landing-requires-2 : tie.Need-landing-requires-2
-landing-requires-2 c κs = knows (c .before .before .before) .acc .held
+landing-requires-2 c κs = let N = knows (c .before .before .before) in (N .acc .held, N .good .fit .sorted)
 
 sub-gone : tie.Need-sub-gone
 sub-gone c =

@@ -10,6 +10,7 @@ use Rattle.model.specs.Raw.{layerOf}
 use Rattle.model.specs.Calls.{readyAnswer, strikeAnswer}
 use Rattle.fit.proofs.Answers.{is-ready, rows-shown}
 use Rattle.landing.proofs.Known.{Known, known}
+use Rattle.write.specs.Plans.{splices}
 use Rattle.plan.proofs.Answers.{may-enter, enters, as-before, go-on}
 use Rattle.strike.proofs.Answers.{
   strikeRest,
@@ -72,7 +73,7 @@ strike-requires c κs =
     (is-ready _ _ _ _ _ (passed d), omega (arith, shown d, c .before .if1 .left))
 
 enter-requires : tie.Need-enter-requires
-enter-requires c κs = may-enter (knows (c .before .before .before .before .before)) (c .before .strike .ensures)
+enter-requires c κs = may-enter (knows (c .before .before .before .before .before)) (splices (c .before .strike .ensures))
 
 same-length-2 : tie.Need-same-length-2
 same-length-2 c = search needs
@@ -97,7 +98,7 @@ returns-3 c =
     enters (a .c) (a .m) (a .layer .now) _ _ (knows d)
     (strike-last (a .c) (a .m) (a .layer .now) (a .keys .now) (a .r)
     (omega (arith, shown d, e .before .before .if1 .left)) ∙ rest d)
-    (e .strike .ensures) _ _ (c .before .before .enter .ensures)
+    (splices (e .strike .ensures)) _ _ (c .before .before .enter .ensures)
 
 pub strike-spec : {M : Type 1} → statement M
 strike-spec =

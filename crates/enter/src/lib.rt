@@ -1,0 +1,48 @@
+// An edit entered into a layer's slice: one splice, or one value set.
+use splice::Splice;
+use words::Answer;
+use words::Entry;
+ghost use mathlib.Core.Path.{_≡_};
+ghost use lib.ListN.{length};
+ghost use Rattle.model.specs.Raw.{Held};
+ghost use Rattle.splice.specs.Splice.{roomAnswer, ifDone};
+ghost use Rattle.enter.specs.Move.{noneAt, entries, number, Within, entered, countAfter};
+
+// No splice, behind m entries.
+fn none(m: usize) -> Splice
+    ensures { λ p. ⌜ p ≡ noneAt m ⌝ }
+{
+    let entry = Entry::strike(0, 0);
+    Splice {
+        i: m,
+        gone: 0,
+        comes: 0,
+        entry,
+    }
+}
+
+// Enters one splice.
+pub fn enter(c: usize, m: usize, p: Splice, layer: &mut [u64]) -> Answer
+    requires { ⌜ Held c m (now layer) × Within c m (entries p) ⌝ }
+    ensures { λ r. ⌜ (let L = now (layer .entry) in (r ≡ roomAnswer c (length L) (countAfter m (entries p)))
+        × (now (layer .exit) ≡ ifDone r (entered c m (entries p) L) L)) ⌝ }
+{
+    splice::enter_two(c, m, p, none(m), layer)
+}
+
+// Value j of entry number i, which is to become v.
+pub struct Value {
+    pub i: usize,
+    pub j: usize,
+    pub v: u64,
+}
+
+// Sets one value.
+pub fn set_value(c: usize, m: usize, x: Value, layer: &mut [u64])
+    requires { ⌜ Held c m (now layer) × Within c m (number x) ⌝ }
+    ensures { λ _. ⌜ now (layer .exit) ≡ entered c m (number x) (now (layer .entry)) ⌝ }
+{
+    let at = x.i * (c + 2);
+    let own = at + (2 + x.j);
+    layer[own] = x.v;
+}
