@@ -83,7 +83,7 @@ impl Case {
             },
             _ => None,
         };
-        let call = Call { edit, c, m, slice, keys: keys.to_vec(), offset: 0 };
+        let call = Call { edit, plain: false, c, m, slice, keys: keys.to_vec(), offset: 0 };
         Case { kind, at, call, old, new, answer, after, value }
     }
 

@@ -1,7 +1,7 @@
 //! How often each number of a lent slice is stored and loaded in a call, from a trace of memory: `valgrind --tool=lackey --trace-mem=yes`.
 //! The traced program, `serve`, gets the calls on its standard input, ready made, and stores to a marker before and after each.
 
-use crate::calls::CARD;
+use crate::calls::{CARD, PLAIN};
 use crate::scope::Pair;
 use std::collections::VecDeque;
 use std::fs::File;
@@ -17,7 +17,7 @@ use std::sync::OnceLock;
 pub const GUARD: usize = 16;
 const GUARDED: u64 = 0xA5A5_0000_5A5A_0001;
 const MOST_NUMBERS: usize = 2 * GUARD + 8 + 520 * 10;
-const HEAD: usize = 10;
+const HEAD: usize = 11;
 
 /// The marker: nothing else stores to it.
 static MARK: AtomicU64 = AtomicU64::new(0);
@@ -36,10 +36,11 @@ pub enum Edit {
     Control(usize, usize, usize),
 }
 
-/// An edit of a slice, which begins so many numbers behind a fixed address.
+/// An edit of a slice, which begins so many numbers behind a fixed address, by the archive or by plain C.
 #[derive(Clone, Debug)]
 pub struct Call {
     pub edit: Edit,
+    pub plain: bool,
     pub c: usize,
     pub m: usize,
     pub slice: Vec<u64>,
@@ -78,7 +79,7 @@ impl Call {
             Edit::Change(r, j, v) => (2, &none, [*r, *j, *v as usize]),
             Edit::Control(way, i, k) => (3, &none, [*i, *k, *way]),
         };
-        let head: [usize; HEAD] = [what, self.c, self.m, self.slice.len(), self.keys.len(), row.len(), r, j, v, self.offset];
+        let head: [usize; HEAD] = [what, self.c, self.m, self.slice.len(), self.keys.len(), row.len(), r, j, v, self.offset, self.plain as usize];
         let (head, guard) = (head.map(|x| x as u64), [GUARDED; GUARD]);
         [&head[..], &guard, &self.slice, &guard, &self.keys, row].concat()
     }
@@ -91,7 +92,8 @@ pub fn serve() {
     let mark = MARK.as_ptr();
     to.write_all(bytes(&[mark as u64, region.as_ptr() as u64])).unwrap();
     while from.read_exact(bytes_mut(&mut head)).is_ok() {
-        let [what, c, m, len, n, width, r, j, v, offset] = head.map(|x| x as usize);
+        let [what, c, m, len, n, width, r, j, v, offset, plain] = head.map(|x| x as usize);
+        let who = [&CARD, &PLAIN][plain];
         let (region, keys, row) = (&mut region[offset..offset + len + 2 * GUARD], &mut keys[..n], &mut row[..width]);
         for part in [&mut *region, &mut *keys, &mut *row] {
             from.read_exact(bytes_mut(part)).unwrap();
@@ -99,9 +101,9 @@ pub fn serve() {
         let slice = &mut region[GUARD..GUARD + len];
         unsafe { mark.write_volatile(1) };
         let answer = match what {
-            0 => CARD.add(c, m, slice, keys, row),
-            1 => CARD.strike(c, m, slice, keys, r),
-            2 => CARD.change(c, m, slice, keys, r, j, v as u64),
+            0 => who.add(c, m, slice, keys, row),
+            1 => who.strike(c, m, slice, keys, r),
+            2 => who.change(c, m, slice, keys, r, j, v as u64),
             _ => (0, unsafe { control_strike(v, c, m, slice.as_mut_ptr(), keys.as_ptr(), r, j) } as u64),
         };
         unsafe { mark.write_volatile(2) };

@@ -4,6 +4,7 @@
 use harness::calls::{Calls, CARD, PLAIN};
 use harness::scope::{self, Entry, Pair};
 use harness::spread::{keys, spread};
+use std::cell::RefCell;
 use std::hint::black_box;
 use std::time::Instant;
 
@@ -92,13 +93,20 @@ impl Clock {
         }
     }
 
-    /// The slice is `from` anew, and no line of it is in a cache.
+    /// The slice, one for both, is `from` anew, and no line of it is in a cache.
     fn slow(&self, from: &[u64], call: impl Fn(&Calls, &mut [u64]) -> Pair) -> (f64, f64) {
-        let ready = |slice: &mut [u64]| {
-            slice.copy_from_slice(from);
-            flush(slice);
+        let slice = RefCell::new(from.to_vec());
+        let step = |who: &'static Calls, timed: bool| {
+            let slice = &mut slice.borrow_mut()[..];
+            if timed {
+                assert_eq!(call(who, slice).0, 0, "{} refuses", who.name);
+            } else {
+                slice.copy_from_slice(from);
+                flush(slice);
+            }
         };
-        self.each(1, from, ready, call)
+        let t = self.medians(1, &mut [&mut |timed| step(&CARD, timed), &mut |timed| step(&PLAIN, timed)]);
+        (t[0], t[1])
     }
 }
 
@@ -264,7 +272,8 @@ fn main() {
             };
             println!("| {c} | {m} | {read:.0} | {copy:.0} | {by_key:.0} | {:.2}{} |", by_key / read, mark(kept));
         }
-    }    println!("\nEdits with the layer in slow memory, n = 4,096: before each timed call every line of the slice is flushed from the caches (clflush), for both alike,");
+    }
+    println!("\nEdits with the layer in slow memory, n = 4,096: before each timed call every line of the slice is flushed from the caches (clflush), for both alike,");
     println!("so that the first load or store of a line goes to memory; the keys, the row and the code stay cached.\n");
     println!("| call | c | m = 16 | m = 64 | m = 512 |\n|---|---|---|---|---|");
     for c in [3, 8] {

@@ -15,24 +15,32 @@ fn main() {
     }
     let program = std::env::current_exe().unwrap();
     let mut cases: Vec<Case> = columns.into_iter().flat_map(edits::all).collect();
-    let sums = edits::sums(&program, &mut cases).unwrap_or_else(|words| {
-        eprintln!("{words}");
-        std::process::exit(1)
-    });
+    let mut counted = |plain: bool| {
+        cases.iter_mut().for_each(|case| case.call.plain = plain);
+        edits::sums(&program, &mut cases).unwrap_or_else(|words| {
+            eprintln!("{words}");
+            std::process::exit(1)
+        })
+    };
+    let (plain, sums) = (counted(true), counted(false));
     println!("Loads are multiples of the layer's numbers, m (c + 2); where there are none, numbers.\n\n{}", edits::HEADING);
     cases.iter().zip(&sums).for_each(|(case, sum)| println!("{}", edits::line(case, sum)));
-    println!("\nBy kind, the most of all the above; loads, of layers of 511 entries\n");
-    println!("| edit | most stores of a number | loads | the rest beside the move |\n|---|---|---|---|");
+    println!("\nBy kind, the most of all the above, and the same of plain C; loads, of layers of 511 entries\n");
+    println!("| edit | most stores of a number | loads | the rest beside the move | plain C: stores | loads | the rest |\n|---|---|---|---|---|---|---|");
     let mut kinds: Vec<&str> = cases.iter().map(|case| case.kind).collect();
     kinds.sort_unstable();
     kinds.dedup();
     for kind in kinds {
-        let own = || cases.iter().zip(&sums).filter(|(case, _)| case.kind == kind);
-        let most = own().map(|(_, sum)| sum.most).max().unwrap_or(0);
-        let long = |loads: fn(&Sum) -> usize| {
-            let times = |(case, sum): (&Case, &Sum)| loads(sum) as f64 / (case.call.m * (case.call.c + 2)) as f64;
-            own().filter(|(case, _)| case.call.m == 511).map(times).fold(0.0, f64::max)
-        };
-        println!("| {kind} | {most} | {:.2} | {:.2} |", long(|s| s.loads), long(|s| s.loads - s.tail));
+        print!("| {kind} ");
+        for all in [&sums, &plain] {
+            let own = || cases.iter().zip(all).filter(|(case, _)| case.kind == kind);
+            let most = own().map(|(_, sum)| sum.most).max().unwrap_or(0);
+            let long = |loads: fn(&Sum) -> usize| {
+                let times = |(case, sum): (&Case, &Sum)| loads(sum) as f64 / (case.call.m * (case.call.c + 2)) as f64;
+                own().filter(|(case, _)| case.call.m == 511).map(times).fold(0.0, f64::max)
+            };
+            print!("| {most} | {:.2} | {:.2} ", long(|s| s.loads), long(|s| s.loads - s.tail));
+        }
+        println!("|");
     }
 }
