@@ -96,7 +96,8 @@ struct kw_answer kw_back(size_t c, size_t n, size_t m, const uint64_t *layer, si
 /* THE EDITS alter the layer in place. Entries that they free become zero; what stood behind the layer, old and new, stays.
  * For layers in slow memory: an accepted edit stores each number of the layer at most once (the C library may clear a freed one
  * twice) and none in front of its place; the entries behind it are moved once, and not at all where as many come as go; a cell
- * that the layer holds already costs one store. A refused edit stores nothing.
+ * that the layer holds already costs one store. A refused edit stores nothing. (What the slice holds afterwards is proved; the
+ * stores were counted in the built archive, on x86-64.)
  * Adds a row of c numbers. Refusals 1 2 3 4 7 9 10. value: the new m. */
 struct kw_answer kw_add(size_t c, size_t m, uint64_t *layer, size_t layer_len, const uint64_t *keys, size_t n,
                         const uint64_t *row, size_t row_len);
