@@ -11,7 +11,7 @@ pub fn answer(c: usize, m: usize, layer: &[u64], base: &[u64], j: usize, len: us
     if c <= j {
         return Answer::refused(1, 0);
     }
-    match form::check(c, base.len(), m, layer) {
+    match form::check_layer(c, base.len(), m, layer) {
         Answer::Refused(x) => Answer::Refused(x),
         Answer::Done(rows) => {
             if len < rows {

@@ -21,8 +21,8 @@ returns c = c .refused .ensures ∙ column-refused _ _ _ _ _ _ (omega (arith, c 
 below : (c : tie.Else1) → c .before .before .before .args .j < c .before .before .before .args .c
 below c = omega (arith, c .if1 .left)
 
-check-requires : tie.Need-check-requires
-check-requires c κs = search needs
+check-layer-requires : tie.Need-check-layer-requires
+check-layer-requires c κs = search needs
 
 enum-known-x : tie.Need-enum-known-x
 enum-known-x c = search needs
@@ -34,7 +34,7 @@ enum-known-rows c = search needs
 formed : (c : tie.After-known-told2) →
     let a = c .before .before .before .before .before .before .before .args in
     formAnswer (a .c) (length (a .base .now)) (a .m) (a .layer .now) ≡ Done (c .before .rows .given .0 .0)
-formed c = sym (c .before .before .before .check .ensures) ∙ c .before .rows .given .1
+formed c = sym (c .before .before .before .check-layer .ensures) ∙ c .before .rows .given .1
 
 refused-requires-2 : tie.Need-refused-requires-2
 refused-requires-2 c κs = search needs
@@ -50,7 +50,7 @@ returns-3 : tie.Need-returns-3
 returns-3 c =
     let x = c .before .x .given in
     let k = c .before .before .before in
-    form-refused _ _ _ _ _ _ (x .0 .0) (below (k .before)) (sym (k .check .ensures) ∙ x .1)
+    form-refused _ _ _ _ _ _ (x .0 .0) (below (k .before)) (sym (k .check-layer .ensures) ∙ x .1)
 
 returns-4 : tie.Need-returns-4
 returns-4 c =
@@ -63,7 +63,7 @@ answer-spec =
     (tie.spec
     refused-requires
     returns
-    check-requires
+    check-layer-requires
     enum-known-x
     enum-known-rows
     refused-requires-2
