@@ -3,7 +3,8 @@
  * Link with the archive that `rt staticlib card` writes: target/staticlib/libcard.a
  *
  * A TABLE has c columns (1 to 8) of unsigned 64-bit numbers and n rows (0 to 4,096). Column 0 is the key, the group number,
- * strictly ascending. Columns are lent one at a time, as a pointer and a length in numbers; n is that length.
+ * strictly ascending. Columns are lent one at a time, as a pointer and a length in numbers; n is that length. (kw_renumber alone
+ * is lent the whole table: its columns end to end.)
  *
  * A LAYER is m entries (0 to 512) in a slice of numbers, c + 2 numbers each:
  *     position, kind, value 0, .. value c-1
@@ -17,7 +18,7 @@
  * and no lent number was changed. Refusals are tested in number order. (kw_view alone gives no number: the read before it does.)
  *
  *      1  an argument passes its limit: c not 1 to 8, n over 4,096, m over 512 or over its slice, a column number
- *         not below c, a row not c long, a position past n
+ *         not below c, a row not c long, a position past n, a whole table under c n numbers
  *      2  a layer breaks form       place: the least entry at fault, or m for the row total
  *      3  the key column is not strictly ascending
  *      4  a layer does not fit the keys   place: the least entry at fault
@@ -35,7 +36,8 @@
  *
  * MEMORY. A const pointer is only read, and may be shared by calls that run at once. A pointer that is not const must be
  * yours alone during the call, and overlap nothing else that the call is lent. A length of 0 takes any pointer that is not null
- * and is aligned. Nothing is kept after a call, nothing is allocated. kw_combine and kw_move use about 5 KiB of stack, any other less than 1.
+ * and is aligned. Nothing is kept after a call, nothing is allocated. kw_combine and kw_move use about 5 KiB of stack, kw_renumber
+ * about 1, any other less.
  */
 #ifndef KWADIRUMPE_H
 #define KWADIRUMPE_H
@@ -108,6 +110,18 @@ struct kw_answer kw_strike(size_t c, size_t m, uint64_t *layer, size_t layer_len
 /* Changes column j of row number r to v. Refusals 1 2 3 4 5 6 9. value: the new m. */
 struct kw_answer kw_change(size_t c, size_t m, uint64_t *layer, size_t layer_len, const uint64_t *keys, size_t n, size_t r,
                            size_t j, uint64_t v);
+
+/* Renumbers row number r: it gets the number g, and its other values stay as they are shown, changes included. The layer is the one
+ * that kw_strike of the row and then kw_add of it, with g as its key, would leave; but it is one edit, and no full layer stops it
+ * between the two: 9 is judged on the layer that would be left in the end, and a refused row stands as it stood. That layer has as many
+ * entries as before for an added row; for a base row two more, less one for each of its changes. The row's own number is accepted
+ * and stores nothing. As many rows are shown as before: there is no refusal 10.
+ * table is the whole table, its c columns of n rows end to end, at least c n numbers; the first n of them are the keys. The edit has
+ * two places, where the row goes and where it comes again: nothing in front of the first is stored, what stands between them and
+ * what stands behind both is moved once, and not at all where it need not.
+ * Refusals 1 2 3 4 5 7 9; 7 where g is shown in another row. value: the new m. */
+struct kw_answer kw_renumber(size_t c, size_t n, size_t m, uint64_t *layer, size_t layer_len, const uint64_t *table,
+                             size_t table_len, size_t r, uint64_t g);
 
 /* One layer into out that reads as r and then w, where w stands over r's result. Refusals 1 2 3 4 9 (and 10, which no input
  * reaches). value: its m; the rest of out stays. */

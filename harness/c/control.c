@@ -1,5 +1,5 @@
-/* A strike that does what it should in a way that it should not, so that the count of its stores and loads is seen to fail.
-   The k changes of a base row, from entry number i on, become one strike. Answers the new m. */
+/* A strike, and a renumbering, that do what they should in a way that they should not, so that the count of stores and loads is seen
+   to fail. The k changes of a base row, from entry number i on, become one strike. Answers the new m. */
 #include "../../include/kwadirumpe.h"
 
 static void move_by_one(size_t w, uint64_t *layer, size_t from, size_t end, int up) {
@@ -44,4 +44,26 @@ size_t control_strike(size_t way, size_t c, size_t m, uint64_t *layer, const uin
     if (way == 4)
         l[m * w] = l[m * w];
     return m + 1 - k;
+}
+
+/* A renumbering of a base row with one change, entry number i, to a greater number: its add comes before entry number t, at position p.
+   The entries between the two stay where they are, and are stored again. Answers the new m. */
+size_t control_renumber(size_t c, size_t m, uint64_t *layer, const uint64_t *keys, const uint64_t *row, size_t i, size_t t, size_t p) {
+    size_t w = c + 2;
+    uint64_t s = layer[i * w];
+    volatile uint64_t *l = layer;
+    move_by_one(w, layer, t * w, m * w, 1);
+    for (size_t x = (i + 1) * w; x < t * w; x++)
+        l[x] = l[x];
+    l[i * w] = s;
+    l[i * w + 1] = KW_STRIKE;
+    l[i * w + 2] = keys[s];
+    l[t * w] = p;
+    l[t * w + 1] = KW_ADD;
+    l[t * w + 2] = row[0];
+    for (size_t j = 1; j < c; j++) {
+        l[i * w + 2 + j] = 0;
+        l[t * w + 2 + j] = row[j];
+    }
+    return m + 1;
 }

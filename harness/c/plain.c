@@ -338,6 +338,84 @@ answer plain_change(size_t c, size_t m, uint64_t *layer, size_t len, const uint6
     return done(m + 1 - k);
 }
 
+/* n entries from number i on are moved by d places */
+static void shift(size_t w, uint64_t *layer, size_t i, size_t n, ptrdiff_t d) {
+    if (d)
+        memmove(layer + (i + d) * w, layer + i * w, n * w * 8);
+}
+
+answer plain_renumber(size_t c, size_t n, size_t m, uint64_t *layer, size_t len, const uint64_t *table, size_t table_len, size_t r,
+                      uint64_t g) {
+    if (!args_ok(c, n, m, len) || table_len < c * n)
+        return refused(1, 0);
+    const uint64_t *keys = table;
+    answer a = check_fit(c, m, layer, len, keys, n);
+    if (a.number)
+        return a;
+    if (r >= a.value)
+        return refused(5, 0);
+
+    /* the row as it is shown, and its entries: gone of them from number i on, and a strike in their place where it is a base row */
+    struct origin o = origin_of(c, m, layer, r);
+    uint64_t row[KW_MOST_COLUMNS];
+    size_t w = c + 2, i = 0, gone = 1, strike = 0;
+    if (o.added) {
+        i = o.at;
+        memcpy(row, layer + i * w + 2, c * 8);
+    } else {
+        strike = 1;
+        for (size_t j = 0; j < c; j++)
+            row[j] = table[j * n + o.at];
+        while (i < m && (layer[i * w] < o.at || (layer[i * w] == o.at && layer[i * w + 1] == KW_ADD)))
+            i++;
+        for (gone = 0; i + gone < m && layer[(i + gone) * w] == o.at; gone++)
+            row[layer[(i + gone) * w + 1]] = layer[(i + gone) * w + 2];
+    }
+    uint64_t own = row[0];
+    if (g == own)
+        return done(m);
+    row[0] = g;
+
+    /* where it comes again: at base position s, as entry number t of the layer as it stands */
+    size_t lo = 0, hi = n;
+    while (lo < hi) {
+        size_t mid = (lo + hi) / 2;
+        if (keys[mid] < g)
+            lo = mid + 1;
+        else
+            hi = mid;
+    }
+    size_t s = lo, t = g < own ? 0 : i + gone;
+    while (t < m && (layer[t * w] < s || (layer[t * w] == s && layer[t * w + 1] == KW_ADD && layer[t * w + 2] < g)))
+        t++;
+    if (t < m && layer[t * w] == s && layer[t * w + 1] == KW_ADD && layer[t * w + 2] == g)
+        return refused(7, 0);
+    if (s < n && keys[s] == g && !(t < m && struck_later(c, m, t, layer) && layer[t * w] == s))
+        return refused(7, 0);
+    size_t k = m + 1 + strike - gone;
+    if (k > room(c, len))
+        return refused(9, 0);
+
+    /* the entries between the two places, and those behind both */
+    ptrdiff_t behind = (ptrdiff_t)(1 + strike) - (ptrdiff_t)gone;
+    size_t from = g < own ? t : i + gone, to = g < own ? i : t, rest = g < own ? i + gone : t;
+    ptrdiff_t between = g < own ? 1 : behind - 1;
+    if (behind > 0)
+        shift(w, layer, rest, m - rest, behind);
+    shift(w, layer, from, to - from, between);
+    if (behind < 0)
+        shift(w, layer, rest, m - rest, behind);
+    if (k < m)
+        memset(layer + k * w, 0, (m - k) * w * 8);
+    if (strike)
+        write_one(c, layer + (g < own ? i + 1 : i) * w, o.at, KW_STRIKE, own);
+    uint64_t *e = layer + (g < own ? t : t + strike - gone) * w;
+    e[0] = s;
+    e[1] = KW_ADD;
+    memcpy(e + 2, row, c * 8);
+    return done(k);
+}
+
 /* the entry d stands before e */
 static bool before(const uint64_t *d, const uint64_t *e) {
     if (d[0] != e[0])

@@ -29,13 +29,14 @@ pub struct Calls {
     add: unsafe extern "C" fn(usize, usize, Written, usize, Lent, usize, Lent, usize) -> Answer,
     strike: unsafe extern "C" fn(usize, usize, Written, usize, Lent, usize, usize) -> Answer,
     change: unsafe extern "C" fn(usize, usize, Written, usize, Lent, usize, usize, usize, u64) -> Answer,
+    renumber: unsafe extern "C" fn(usize, usize, usize, Written, usize, Lent, usize, usize, u64) -> Answer,
     combine: unsafe extern "C" fn(usize, Lent, usize, usize, Lent, usize, usize, Lent, usize, Written, usize) -> Answer,
     move_past: unsafe extern "C" fn(usize, Lent, usize, usize, Written, usize, usize, Lent, usize) -> Answer,
 }
 
 macro_rules! calls {
     ($all:ident, $name:literal: $fit:ident $read:ident $view:ident $shift:ident $row:ident $back:ident $add:ident $strike:ident
-     $change:ident $combine:ident $move:ident) => {
+     $change:ident $renumber:ident $combine:ident $move:ident) => {
         extern "C" {
             fn $fit(c: usize, m: usize, layer: Lent, layer_len: usize, keys: Lent, n: usize) -> Answer;
             fn $read(
@@ -53,6 +54,9 @@ macro_rules! calls {
             fn $strike(c: usize, m: usize, layer: Written, layer_len: usize, keys: Lent, n: usize, r: usize) -> Answer;
             fn $change(
                 c: usize, m: usize, layer: Written, layer_len: usize, keys: Lent, n: usize, r: usize, j: usize, v: u64,
+            ) -> Answer;
+            fn $renumber(
+                c: usize, n: usize, m: usize, layer: Written, layer_len: usize, table: Lent, table_len: usize, r: usize, g: u64,
             ) -> Answer;
             fn $combine(
                 c: usize, keys: Lent, n: usize, mr: usize, r: Lent, r_len: usize, mw: usize, w: Lent, w_len: usize, out: Written,
@@ -73,15 +77,17 @@ macro_rules! calls {
             add: $add,
             strike: $strike,
             change: $change,
+            renumber: $renumber,
             combine: $combine,
             move_past: $move,
         };
     };
 }
 
-calls!(CARD, "the archive": kw_fit kw_read kw_view kw_shift_at kw_row kw_back kw_add kw_strike kw_change kw_combine kw_move);
+calls!(CARD, "the archive": kw_fit kw_read kw_view kw_shift_at kw_row kw_back kw_add kw_strike kw_change kw_renumber kw_combine
+       kw_move);
 calls!(PLAIN, "plain C": plain_fit plain_read plain_view plain_shift_at plain_row plain_back plain_add plain_strike plain_change
-       plain_combine plain_move);
+       plain_renumber plain_combine plain_move);
 
 fn pair(a: Answer) -> Pair {
     (a.number, a.value)
@@ -118,6 +124,10 @@ impl Calls {
     }
     pub fn change(&self, c: usize, m: usize, layer: &mut [u64], keys: &[u64], r: usize, j: usize, v: u64) -> Pair {
         pair(unsafe { (self.change)(c, m, layer.as_mut_ptr(), layer.len(), keys.as_ptr(), keys.len(), r, j, v) })
+    }
+    pub fn renumber(&self, c: usize, n: usize, m: usize, layer: &mut [u64], table: &[u64], r: usize, g: u64) -> Pair {
+        let (l, t) = (layer.as_mut_ptr(), table.as_ptr());
+        pair(unsafe { (self.renumber)(c, n, m, l, layer.len(), t, table.len(), r, g) })
     }
     pub fn combine(&self, c: usize, keys: &[u64], mr: usize, r: &[u64], mw: usize, w: &[u64], out: &mut [u64]) -> Pair {
         let (k, o) = (keys.as_ptr(), out.as_mut_ptr());

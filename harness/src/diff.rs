@@ -1,13 +1,14 @@
 //! Differential tests: every call of the archive, and of plain C, beside the scope by brute force, on valid, damaged and extreme input.
 
-use crate::scope::{self, Entry, Pair};
+use crate::scope::{self, Entry, Origin, Pair};
 use crate::calls::{Calls, CARD, PLAIN};
 use crate::Rng;
 
-pub const CALLS: [&str; 11] = ["fit", "read", "view", "shift", "row", "back", "add", "strike", "change", "combine", "move"];
+pub const CALLS: [&str; 12] =
+    ["fit", "read", "view", "shift", "row", "back", "add", "strike", "change", "renumber", "combine", "move"];
 
 /// Which refusals each call can meet (combine's 10 is one that no input reaches).
-const MEETS: [&[usize]; 11] = [
+const MEETS: [&[usize]; 12] = [
     &[1, 2, 3, 4],
     &[1, 2, 11],
     &[],
@@ -17,14 +18,45 @@ const MEETS: [&[usize]; 11] = [
     &[1, 2, 3, 4, 7, 9, 10],
     &[1, 2, 3, 4, 5, 9],
     &[1, 2, 3, 4, 5, 6, 9],
+    &[1, 2, 3, 4, 5, 7, 9],
     &[1, 2, 3, 4, 9],
     &[1, 2, 3, 4, 8, 10],
 ];
 
+/// The kinds of renumbering that are to be met: accepted ones, and from `REFUSED` on refused ones.
+pub const KINDS: [&str; 22] = [
+    "own number",
+    "added row",
+    "base row",
+    "base row, 1 change",
+    "base row, 2 changes",
+    "base row, 3 changes and more",
+    "up",
+    "down",
+    "in place",
+    "to the front",
+    "to the end",
+    "to a struck key",
+    "over no base rows",
+    "a longer table than c n",
+    "room just enough",
+    "512 entries left",
+    "as strike and add leave it",
+    "there and back",
+    "short table alone",
+    "7 before 9",
+    "9, strike and add stopped between the two",
+    "9 for more than 512 entries",
+];
+const REFUSED: usize = 18;
+
 /// How often each answer number of each call was met.
 #[derive(Default)]
 pub struct Report {
-    pub met: [[u64; 12]; 11],
+    pub met: [[u64; 12]; 12],
+    /// Renumberings by kind, and accepted ones by the number of columns.
+    pub kinds: [u64; 22],
+    pub columns: [u64; 9],
     pub both_orders: u64,
     pub combined: u64,
     /// Cells that both layers of an accepted move set to one value, and layers with entries that passed themselves.
@@ -40,6 +72,12 @@ impl Report {
     pub fn missing(&self) -> Option<(&'static str, usize)> {
         if self.one_value == 0 || self.past_itself == 0 {
             return Some(("move past an equal change", 0));
+        }
+        if let Some(k) = self.kinds.iter().position(|k| *k == 0) {
+            return Some((KINDS[k], 0));
+        }
+        if let Some(c) = (1..9).find(|c| self.columns[*c] == 0) {
+            return Some(("renumber, by columns", c));
         }
         for (i, numbers) in MEETS.iter().enumerate() {
             if self.met[i][0] == 0 {
@@ -60,6 +98,10 @@ impl Report {
         }
         println!("calls {}, both orders compared {}, combinations read back {}", self.calls(), self.both_orders, self.combined);
         println!("cells set to one value by both {}, layers past themselves {}", self.one_value, self.past_itself);
+        let listed = |from: usize, to: usize| (from..to).map(|k| format!("{} {}", KINDS[k], self.kinds[k])).collect::<Vec<_>>().join("; ");
+        println!("renumberings: {}", listed(0, REFUSED));
+        println!("by columns, 1 to 8: {:?}", &self.columns[1..]);
+        println!("refused ones: {}", listed(REFUSED, KINDS.len()));
     }
 }
 
@@ -196,7 +238,7 @@ fn slice_of(rng: &mut Rng, c: usize, layer: &[Entry]) -> Vec<u64> {
 }
 
 fn small(rng: &mut Rng) -> Case {
-    let c = if rng.one_in(8) { 8 } else { 1 + rng.below(4) };
+    let c = if rng.one_in(8) { 5 + rng.below(4) } else { 1 + rng.below(4) };
     let wide = 3 + rng.below(12);
     let n = rng.below(8);
     let mut keys: Vec<u64> = (0..n).map(|_| key(rng, wide)).collect();
@@ -251,6 +293,47 @@ fn large(rng: &mut Rng, m: usize) -> Case {
         rows,
         keys,
     }
+}
+
+/// A good layer of m entries over keys that are four apart or more, in one pass: two rows added in front of a row at most, and the row
+/// struck, or changed in any columns.
+fn dense_layer(rng: &mut Rng, c: usize, keys: &[u64], m: usize) -> Vec<Entry> {
+    let mut layer: Vec<Entry> = Vec::new();
+    for (s, k) in keys.iter().enumerate() {
+        let mut at = Vec::new();
+        for i in 0..rng.below(3) as u64 {
+            at.push((scope::ADD, row(rng, c, k - 3 + i)));
+        }
+        if rng.one_in(4) {
+            at.push((scope::STRIKE, vec![*k]));
+        } else if rng.one_in(2) {
+            at.extend((1..c as u64).filter(|_| rng.one_in(2)).map(|j| (j, vec![77])).collect::<Vec<_>>());
+        }
+        for (kind, mut vals) in at {
+            vals.resize(c, 0);
+            layer.push(Entry { pos: s as u64, kind, vals });
+        }
+    }
+    layer.truncate(m);
+    layer
+}
+
+/// A table with a layer of m entries, in a slice that holds no more or four more.
+fn dense(rng: &mut Rng, m: usize) -> Case {
+    let c = 1 + rng.below(8);
+    let n = if c == 1 { 600 } else { 450 };
+    let keys: Vec<u64> = (0..n as u64).map(|i| 10 * i + 5 + (i % 7)).collect();
+    let rows: Vec<Vec<u64>> = keys.iter().map(|k| row(rng, c, *k)).collect();
+    let x = dense_layer(rng, c, &keys, m);
+    let y = dense_layer(rng, c, &keys, 5);
+    let w = dense_layer(rng, c, &[], 5);
+    assert_eq!(x.len(), m);
+    let mut layer = if rng.one_in(2) { scope::numbers(&x) } else { slice_of(rng, c, &x) };
+    if rng.one_in(2) {
+        layer.extend((0..4 * (c + 2)).map(|_| rng.next()));
+    }
+    let (other, upper) = (slice_of(rng, c, &y), slice_of(rng, c, &w));
+    Case { c, m, my: y.len(), mw: w.len(), layer, other, upper, rows, keys }
 }
 
 /// Damages one thing of a case.
@@ -327,6 +410,11 @@ impl Trial<'_> {
         (want, after)
     }
 
+    /// A renumbering of this kind was met.
+    fn kind(&mut self, kind: usize, met: bool) {
+        self.report.kinds[kind] += u64::from(met);
+    }
+
     fn met(&mut self, call: usize, number: u64) {
         self.report.met[call][number as usize] += 1;
     }
@@ -380,18 +468,19 @@ fn try_all(rng: &mut Rng, case: &Case, report: &mut Report) {
     t.writing(7, &[r], layer, |k, l| k.strike(c, m, l, keys, r), |l| scope::kw_strike(c, m, l, keys, r));
     let v = rng.below(4) as u64;
     t.writing(8, &[r, j], layer, |k, l| k.change(c, m, l, keys, r, j, v), |l| scope::kw_change(c, m, l, keys, r, j, v));
+    renumber(rng, &mut t, layer, keys, fit.0 == 0);
 
     let whole = (m.min(512) + case.mw.min(512) + 1).min(513) * c.min(8).wrapping_add(2);
     let third: Vec<u64> = (0..if rng.one_in(3) { rng.below(whole + 1) } else { whole }).map(|_| rng.next()).collect();
     let (combine, joined) = t.writing(
-        9,
+        10,
         &[third.len()],
         &third,
         |k, o| k.combine(c, keys, m, layer, case.mw, upper, o),
         |o| scope::kw_combine(c, keys, m, layer, case.mw, upper, o),
     );
     let (moved, past) = t.writing(
-        10,
+        11,
         &[],
         layer,
         |k, l| k.move_past(c, keys, m, l, case.my, other),
@@ -404,29 +493,29 @@ fn try_all(rng: &mut Rng, case: &Case, report: &mut Report) {
         let between = read_table(c, m, layer, &case.rows);
         let twice = read_table(c, case.mw, upper, &between);
         let once = read_table(c, combine.1 as usize, &joined, &case.rows);
-        t.alike("read through the combination", 9, &[], &once, &twice);
+        t.alike("read through the combination", 10, &[], &once, &twice);
     }
     if table && moved.0 == 0 {
         let mut theirs = other.to_vec();
         let (number, _) = CARD.move_past(c, keys, case.my, &mut theirs, m, layer);
-        t.alike("moved the other way", 10, &[], &number, &0);
+        t.alike("moved the other way", 11, &[], &number, &0);
         t.report.both_orders += 1;
         let first = read_table(c, m, &past, &read_table(c, case.my, other, &case.rows));
         let second = read_table(c, case.my, &theirs, &read_table(c, m, layer, &case.rows));
-        t.alike("the one order", 10, &[], &first, &second);
+        t.alike("the one order", 11, &[], &first, &second);
         let done = scope::table(&scope::entries(c, case.my, other), &case.rows);
-        t.alike("read after the move", 10, &[], &first, &scope::redone(keys, &scope::entries(c, m, layer), &done));
+        t.alike("read after the move", 11, &[], &first, &scope::redone(keys, &scope::entries(c, m, layer), &done));
         // combined into theirs: a cell that both set to one value has one entry
         let mut master = vec![0; 512 * (c + 2)];
         let (number, k) = CARD.combine(c, keys, case.my, other, m, &past, &mut master);
         if number == 0 {
-            t.alike("read through theirs and mine", 9, &[], &read_table(c, k as usize, &master, &case.rows), &first);
+            t.alike("read through theirs and mine", 10, &[], &read_table(c, k as usize, &master, &case.rows), &first);
             let all = scope::entries(c, k as usize, &master);
             let theirs = scope::entries(c, case.my, other);
             for e in scope::entries(c, m, layer).iter().filter(|e| e.is_change() && theirs.contains(e)) {
                 t.report.one_value += 1;
                 let kept: Vec<&Entry> = all.iter().filter(|f| f.pos == e.pos && f.kind == e.kind).collect();
-                t.alike("one entry for the cell", 9, &[], &kept, &vec![e]);
+                t.alike("one entry for the cell", 10, &[], &kept, &vec![e]);
             }
         }
     }
@@ -439,13 +528,181 @@ fn try_all(rng: &mut Rng, case: &Case, report: &mut Report) {
         };
         let mut copy = layer.to_vec();
         let got = CARD.move_past(c, keys, m, &mut copy, m, layer);
-        t.alike("past itself", 10, &[], &got, &want);
-        t.alike("left by itself", 10, &[], &&copy[..], &layer);
+        t.alike("past itself", 11, &[], &got, &want);
+        t.alike("left by itself", 11, &[], &&copy[..], &layer);
         t.report.past_itself += u64::from(got.0 == 0 && m > 0);
     }
     for (slice, was) in lent.iter().zip([&case.layer, &case.keys, &case.other, &case.upper]).chain([(&guarded, &column)]) {
         assert!(slice.whole() && slice.shared() == &was[..], "a slice lent for reading has changed, on {case:?}");
     }
+}
+
+/// A row number and a group number to give it: mostly of a fitting layer's rows, of each kind, and numbers near those that are shown.
+fn choice(rng: &mut Rng, keys: &[u64], mine: &[Entry]) -> (usize, u64) {
+    let origins = scope::origins(keys.len(), mine);
+    let shown = scope::column(mine, keys, 0);
+    let added = |o: &Origin| matches!(o, Origin::Added(_));
+    let changed = |o: &Origin| mine.iter().any(|e| e.is_change() && *o == Origin::Base(e.pos as usize));
+    let of = |test: &dyn Fn(&Origin) -> bool| (0..origins.len()).filter(|r| test(&origins[*r])).collect::<Vec<_>>();
+    let some = match rng.below(3) {
+        0 => of(&added),
+        1 => of(&changed),
+        _ => Vec::new(),
+    };
+    let r = if some.is_empty() { about(rng, origins.len().saturating_sub(1)) } else { some[rng.below(some.len())] };
+    let near = if shown.is_empty() { rng.below(30) as u64 } else { shown[rng.below(shown.len())] };
+    let struck: Vec<u64> = mine.iter().filter(|e| e.kind == scope::STRIKE).map(|e| e.vals[0]).collect();
+    let ends = [shown.first().copied().unwrap_or(1), shown.last().copied().unwrap_or(1)];
+    let g = match rng.below(9) {
+        0 => shown.get(r).copied().unwrap_or(near),
+        1 => near,
+        2 | 3 => near.wrapping_add(rng.below(5) as u64).wrapping_sub(2),
+        4 => ends[0].wrapping_sub(1 + rng.below(2) as u64),
+        5 => ends[1].wrapping_add(1 + rng.below(2) as u64),
+        6 if !struck.is_empty() => struck[rng.below(struck.len())],
+        7 => [0, u64::MAX][rng.below(2)],
+        _ => key(rng, 40 + 10 * keys.len()),
+    };
+    (r, g)
+}
+
+/// A renumbering, and where the table is lent whole what else is said of one, of the archive alone.
+fn renumber(rng: &mut Rng, t: &mut Trial, layer: &[u64], keys: &[u64], fits: bool) {
+    let (case, c, m) = (t.case, t.case.c, t.case.m);
+    let mine = if fits { scope::entries(c, m, layer) } else { Vec::new() };
+    let (r, g) = if fits { choice(rng, keys, &mine) } else { (about(rng, keys.len() + 5), key(rng, 40 + 10 * keys.len())) };
+    let mut whole = keys.to_vec();
+    if case.rows.len() == keys.len() && case.rows.iter().all(|row| row.len() == c) {
+        whole = scope::whole_of(c, &case.rows);
+    } else {
+        whole.extend((keys.len()..c.min(9) * keys.len()).map(|_| rng.below(50) as u64));
+    }
+    let exact = whole.len();
+    match rng.below(10) {
+        0 => whole.truncate(exact.saturating_sub(1 + rng.below(2))),
+        1 | 2 => whole.extend((0..1 + rng.below(20)).map(|_| rng.next())),
+        _ => (),
+    }
+    let n = if rng.one_in(30) { [4097, usize::MAX, keys.len() + 1, keys.len().saturating_sub(1)][rng.below(4)] } else { keys.len() };
+    let guarded = Guarded::new(&whole);
+    let table = guarded.shared();
+    let args = [n, table.len(), r, g as usize];
+    let (answer, after) = t.writing(
+        9,
+        &args,
+        layer,
+        |k, l| k.renumber(c, n, m, l, table, r, g),
+        |l| scope::kw_renumber(c, n, m, l, table, r, g),
+    );
+    assert!(guarded.whole() && table == whole, "the table lent to a renumbering has changed, on {case:?}");
+    if !fits || n != keys.len() {
+        return;
+    }
+    let shown = scope::column(&mine, keys, 0);
+    if table.len() < c * n {
+        t.kind(18, true);
+        return;
+    }
+    if r >= shown.len() {
+        return;
+    }
+    again(t, layer, table, r, g, &mine, answer, &after);
+
+    // which kind it was
+    let own = shown[r];
+    let changes = match scope::origins(n, &mine)[r] {
+        Origin::Base(s) => Some(mine.iter().filter(|e| e.is_change() && e.pos == s as u64).count()),
+        Origin::Added(_) => None,
+    };
+    let room = 512.min(layer.len() / (c + 2));
+    let left = changes.map_or(m, |k| m + 2 - k);
+    if answer.0 == 0 {
+        t.report.columns[c] += 1;
+        t.kind(0, g == own);
+        t.kind(12, n == 0);
+        t.kind(13, table.len() > c * n);
+    }
+    if answer.0 == 0 && g != own {
+        let new: Vec<u64> = shown.iter().enumerate().map(|(i, k)| if i == r { g } else { *k }).collect();
+        t.alike("the number of entries left", 9, &args, &(answer.1 as usize), &left);
+        t.kind(1, changes.is_none());
+        for k in 0..3 {
+            t.kind(2 + k, changes == Some(k));
+        }
+        t.kind(5, changes.is_some_and(|k| k > 2));
+        t.kind(6, g > own);
+        t.kind(7, g < own);
+        t.kind(8, new.windows(2).all(|w| w[0] < w[1]));
+        t.kind(9, shown.iter().all(|k| g < *k));
+        t.kind(10, shown.iter().all(|k| g > *k));
+        t.kind(11, mine.iter().any(|e| e.kind == scope::STRIKE && e.vals[0] == g));
+        t.kind(14, left == room);
+        t.kind(15, left == 512);
+    }
+    t.kind(19, answer.0 == 7 && left > room);
+    t.kind(20, answer.0 == 9 && left == room + 1);
+    t.kind(21, answer.0 == 9 && left * (c + 2) <= layer.len());
+}
+
+/// A renumbering of a shown row beside a strike and an add of the row that was read, and there and back again.
+fn again(t: &mut Trial, layer: &[u64], table: &[u64], r: usize, g: u64, mine: &[Entry], answer: Pair, after: &[u64]) {
+    let (case, c, m, n) = (t.case, t.case.c, t.case.m, t.case.keys.len());
+    let (args, keys) = ([r, g as usize], &table[..n]);
+    let rows = scope::rows_of(c, n, table);
+    let was = read_table(c, m, layer, &rows);
+    let mut row = was[r].clone();
+    let own = std::mem::replace(&mut row[0], g);
+    if own == g {
+        t.alike("own number", 9, &args, &answer, &(0, m as u64));
+        t.alike("own number", 9, &args, &after, &layer);
+        return;
+    }
+    let mut twice = layer.to_vec();
+    let strike = CARD.strike(c, m, &mut twice, keys, r);
+    if strike.0 == 0 {
+        let add = CARD.add(c, strike.1 as usize, &mut twice, keys, &row);
+        t.alike("beside strike and add", 9, &args, &answer, &add);
+        if add.0 == 0 {
+            t.alike("the slice beside strike and add", 9, &args, &after, &&twice[..]);
+            t.kind(16, true);
+        }
+    } else {
+        let other = was.iter().enumerate().any(|(i, row)| i != r && row[0] == g);
+        t.alike("where the strike finds no room", 9, &args, &answer, &(if other { 7 } else { 9 }, 0));
+    }
+    if answer.0 != 0 {
+        return;
+    }
+    // the table, and back: an added row leaves the layer as it was, a base row a strike and an add of its own number
+    let k = answer.1 as usize;
+    let now = read_table(c, k, after, &rows);
+    let mut want: Vec<Vec<u64>> = was.iter().enumerate().filter(|(i, _)| *i != r).map(|(_, row)| row.clone()).collect();
+    want.push(row);
+    want.sort();
+    t.alike("the table", 9, &args, &now, &want);
+    let there = now.iter().position(|row| row[0] == g).unwrap();
+    let mut back = after.to_vec();
+    let home = CARD.renumber(c, n, k, &mut back, table, there, own);
+    t.alike("back again", 9, &args, &home, &(0, k as u64));
+    t.alike("the table once back", 9, &args, &read_table(c, k, &back, &rows), &was);
+    let s = match scope::origins(n, mine)[r] {
+        Origin::Added(_) => {
+            t.alike("an added row's layer once back", 9, &args, &&back[..], &layer);
+            t.kind(17, true);
+            return;
+        }
+        Origin::Base(s) => s as u64,
+    };
+    let stays = |e: &&Entry| !(e.is_change() && e.pos == s);
+    let mut entries: Vec<Entry> = mine.iter().filter(stays).cloned().collect();
+    let at = entries.iter().position(|e| e.pos > s).unwrap_or(entries.len());
+    let mut first = vec![0; c];
+    first[0] = own;
+    entries.insert(at, Entry { pos: s, kind: scope::STRIKE, vals: first });
+    entries.insert(at, Entry { pos: s, kind: scope::ADD, vals: was[r].clone() });
+    t.alike("a base row's layer once back", 9, &args, &scope::entries(c, k, &back), &entries);
+    t.kind(17, true);
+    assert!(back[k * (c + 2)..] == after[k * (c + 2)..], "numbers behind the layer have changed on the way back, on {case:?}");
 }
 
 /// A table read through a layer by the archive, column by column.
@@ -473,6 +730,7 @@ pub fn run(seed: u64, calls: u64) -> Report {
         let mut case = match round % 4000 {
             0 => large(&mut rng, 512),
             2000 => large(&mut rng, 511),
+            k if k % 400 == 100 => dense(&mut rng, [512, 511, 512, 510][(k / 400 % 4) as usize]),
             k if k % 100 == 50 => large(&mut rng, (k / 100 % 10) as usize),
             _ => small(&mut rng),
         };

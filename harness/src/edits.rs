@@ -11,7 +11,7 @@ const SIZES: [usize; 5] = [0, 1, 9, 68, 511];
 /// One edit, the layer before it and after it, and the answer, by the scope.
 pub struct Case {
     pub kind: &'static str,
-    pub at: &'static str,
+    pub at: String,
     pub call: Call,
     old: Vec<Entry>,
     new: Vec<Entry>,
@@ -61,7 +61,7 @@ impl Sum {
 
 impl Case {
     /// A slice that holds the layer and `spare` numbers behind it, and the edit by the scope.
-    fn new(kind: &'static str, at: &'static str, c: usize, keys: &[u64], old: Vec<Entry>, spare: usize, edit: Edit) -> Case {
+    fn new(kind: &'static str, at: String, c: usize, keys: &[u64], old: Vec<Entry>, spare: usize, edit: Edit) -> Case {
         let (m, mut slice) = (old.len(), scope::numbers(&old));
         slice.extend((0..spare as u64).map(|x| x * 0x9E37_79B9 + 1));
         let mut after = slice.clone();
@@ -69,10 +69,14 @@ impl Case {
             Edit::Add(row) => scope::kw_add(c, m, &mut after, keys, row),
             Edit::Strike(r) => scope::kw_strike(c, m, &mut after, keys, *r),
             Edit::Change(r, j, v) => scope::kw_change(c, m, &mut after, keys, *r, *j, *v),
+            Edit::Renumber(r, g) => scope::kw_renumber(c, keys.len(), m, &mut after, &whole(c, keys), *r, *g),
             Edit::Control(_, i, _) => {
-                let s = Origin::Base(old[*i].pos as usize);
-                let r = scope::origins(keys.len(), &old).iter().position(|o| *o == s).unwrap();
-                scope::kw_strike(c, m, &mut after, keys, r)
+                scope::kw_strike(c, m, &mut after, keys, row_of(keys.len(), &old, Origin::Base(old[*i].pos as usize)))
+            }
+            Edit::Twice(r, row) => scope::kw_renumber(c, keys.len(), m, &mut after, &whole(c, keys), *r, row[0]),
+            Edit::Between(i, _, _, row) => {
+                let r = row_of(keys.len(), &old, Origin::Base(old[*i].pos as usize));
+                scope::kw_renumber(c, keys.len(), m, &mut after, &whole(c, keys), r, row[0])
             }
         };
         let new = if answer.0 == 0 { scope::entries(c, answer.1 as usize, &after) } else { old.clone() };
@@ -83,7 +87,8 @@ impl Case {
             },
             _ => None,
         };
-        let call = Call { edit, plain: false, c, m, slice, keys: keys.to_vec(), offset: 0 };
+        let lent = if matches!(edit, Edit::Renumber(..)) { whole(c, keys) } else { keys.to_vec() };
+        let call = Call { edit, plain: false, c, m, slice, lent, offset: 0 };
         Case { kind, at, call, old, new, answer, after, value }
     }
 
@@ -92,32 +97,35 @@ impl Case {
         self.answer.0 != 0 && self.kind.starts_with(&self.answer.0.to_string())
     }
 
+    /// The layer stays as it is, and the edit is accepted.
+    pub fn nothing_changes(&self) -> bool {
+        self.answer.0 == 0 && self.old == self.new
+    }
+
     /// One value of the layer changes, and nothing else.
     pub fn value_changes(&self) -> bool {
         self.answer == (0, self.call.m as u64) && matches!(self.call.edit, Edit::Change(..))
     }
 
-    /// How many entries the layers have alike in front, and how many behind.
-    fn alike(&self) -> (usize, usize) {
-        let i = self.old.iter().zip(&self.new).take_while(|(d, e)| d == e).count();
-        (i, self.old[i..].iter().rev().zip(self.new[i..].iter().rev()).take_while(|(d, e)| d == e).count())
+    /// Whether entry number i of the new layer stood there in the old one. No two entries of a layer are alike.
+    fn stays(&self, i: usize) -> bool {
+        self.old.get(i).is_some_and(|d| self.new.get(i) == Some(d))
     }
 
-    /// The numbers that move behind the edit.
+    /// The numbers that move: of entries that stood elsewhere.
     fn tail(&self) -> usize {
-        if self.old.len() == self.new.len() { 0 } else { self.alike().1 * (self.call.c + 2) }
+        (0..self.new.len()).filter(|i| !self.stays(*i) && self.old.contains(&self.new[*i])).count() * (self.call.c + 2)
     }
 
-    /// The numbers that the edit is to store: one value, else what comes, what moves and what is freed.
-    fn due(&self) -> usize {
-        let (i, same) = self.alike();
-        let (old, new) = (self.old.len(), self.new.len());
-        if self.value.is_some() { 1 } else { (new - i - same + old.saturating_sub(new)) * (self.call.c + 2) + self.tail() }
+    /// Whether the edit is to store number x of the layer, old and new: the one value, else what comes, what moves and what is freed.
+    fn due(&self, x: usize) -> bool {
+        self.value.map_or(!self.stays(x / (self.call.c + 2)), |v| x == v)
     }
 
     /// The first number that the edit writes: that of a value, else of an entry, else behind all.
     fn place(&self) -> usize {
-        self.value.unwrap_or(self.alike().0 * (self.call.c + 2))
+        let front = (0..self.old.len()).take_while(|i| self.stays(*i)).count();
+        self.value.unwrap_or(front * (self.call.c + 2))
     }
 
     fn sum(&self, counts: &Counts) -> Sum {
@@ -138,7 +146,7 @@ impl Case {
             front: number(&|x| s[x] > 0 && (GUARD..place).contains(&x)),
             outside: number(&|x| s[x] + l[x] > 0 && !(GUARD..layer).contains(&x)),
             left: number(&|x| s[x] == 0 && (new..layer).contains(&x)),
-            more: number(&|x| s[x] > 0 && (place..layer).contains(&x)).saturating_sub(self.due()),
+            more: number(&|x| s[x] > 0 && (place..layer).contains(&x) && !self.due(x - GUARD)),
             loads,
             tail,
             again: number(&|x| l[x] > 1),
@@ -154,6 +162,11 @@ fn row_of(n: usize, layer: &[Entry], what: Origin) -> usize {
 /// A row with this key.
 fn row(c: usize, key: u64) -> Vec<u64> {
     (0..c as u64).map(|j| if j == 0 { key } else { 100 + j }).collect()
+}
+
+/// A whole table with these keys.
+fn whole(c: usize, keys: &[u64]) -> Vec<u64> {
+    (0..c as u64).flat_map(|j| keys.iter().map(move |k| k + j * 1_000_000)).collect()
 }
 
 /// A layer of m entries, and an even base row, in front, in the middle or behind all, that had no entry of its own and got `own` of them:
@@ -206,8 +219,23 @@ impl Stage {
         let i = self.layer.iter().position(|e| e.kind == scope::ADD && e.pos == self.s as u64).unwrap();
         row_of(self.keys.len(), &self.layer, Origin::Added(i))
     }
+    /// The row that the entries of its own are of: its number, and its group number.
+    fn own(&self, own: Own) -> (usize, u64) {
+        if own == Own::Added { (self.added(), self.keys[self.s] - 2) } else { (self.base(), self.keys[self.s]) }
+    }
+    /// Group numbers to give a row that has this one, and where they stand: in front of all entries, in the middle, behind all, and in the
+    /// row's own place, below and above.
+    fn numbers(&self, own: u64) -> Vec<(&'static str, u64)> {
+        let middle = (self.keys.len() - 6) / 4 * 2;
+        let end = self.keys[self.keys.len() - 1] + 2;
+        let all = [("front", 1), ("middle", self.keys[middle] - 4), ("end", end), ("below", own - 1), ("above", own + 1)];
+        all.into_iter().filter(|(name, _)| middle > 0 || *name != "middle").collect()
+    }
     fn case(self, kind: &'static str, c: usize, spare: usize, edit: Edit) -> Case {
-        Case::new(kind, self.at, c, &self.keys, self.layer, spare, edit)
+        Case::new(kind, self.at.to_string(), c, &self.keys, self.layer, spare, edit)
+    }
+    fn renumbered(&self, kind: &'static str, to: &str, c: usize, spare: usize, r: usize, g: u64) -> Case {
+        Case::new(kind, format!("{} to {to}", self.at), c, &self.keys, self.layer.clone(), spare, Edit::Renumber(r, g))
     }
 }
 
@@ -238,9 +266,54 @@ fn edits(c: usize, m: usize) -> Vec<Case> {
     all
 }
 
-/// Every kind of edit of layers of every size.
+/// The kinds of row that are renumbered, and how many entries more each leaves.
+fn rows(c: usize) -> Vec<(&'static str, Own, isize)> {
+    let mut all = vec![("renumber, added row", Own::Added, 0), ("renumber, base row", Own::Changes(0), 2)];
+    let few = [("renumber, 1 change", 1), ("renumber, 2 changes", 2), ("renumber, 3 changes", 3)].into_iter().filter(|(_, k)| *k < c);
+    let most = [("renumber, c - 1 changes", c - 1)].into_iter().filter(|(_, k)| *k > 3);
+    all.extend(few.chain(most).map(|(kind, k)| (kind, Own::Changes(k), 2 - k as isize)));
+    all
+}
+
+/// Every kind of renumbering of a layer of m entries, from the front, the middle and the end to each of them: in slices that just hold what
+/// is left, and in longer ones. Of a row that needs two entries more the layer of 511 has 510.
+fn renumberings(c: usize, m: usize) -> Vec<Case> {
+    let mut all = Vec::new();
+    let w = c + 2;
+    for (kind, own, more) in rows(c).into_iter().filter(|(_, _, more)| m < 512 || *more == 0) {
+        let m = if more == 2 { m.min(510) } else { m };
+        for stage in stages(c, m, own) {
+            let (r, number) = stage.own(own);
+            // of long layers, to a row's own place from the middle alone
+            let near = m < 500 || stage.at == "middle";
+            for (to, g) in stage.numbers(number).into_iter().filter(|(_, g)| near || g.abs_diff(number) > 1) {
+                let least = more.max(0) as usize * w;
+                let spare = least + [0, c + 1, w, 3 * w + 1][all.len() % 4];
+                let case = stage.renumbered(kind, to, c, spare, r, g);
+                assert_eq!(case.answer, (0, (m as isize + more) as u64), "{kind} {}", case.at);
+                all.push(case);
+            }
+        }
+    }
+    all
+}
+
+/// Rows that get their own numbers.
+pub fn own_numbers(c: usize, m: usize) -> Vec<Case> {
+    let mut all = Vec::new();
+    for (_, own, _) in rows(c) {
+        for stage in stages(c, m, own) {
+            let (r, number) = stage.own(own);
+            all.push(stage.renumbered("renumber, own number", "itself", c, m % 3, r, number));
+        }
+    }
+    all
+}
+
+/// Every kind of edit of layers of every size; renumberings of full ones too.
 pub fn all(c: usize) -> Vec<Case> {
-    SIZES.into_iter().flat_map(|m| edits(c, m)).collect()
+    let renumbered = SIZES.into_iter().chain([512]).flat_map(|m| renumberings(c, m));
+    SIZES.into_iter().flat_map(|m| edits(c, m)).chain(renumbered).collect()
 }
 
 /// Edits of a layer of m entries that are refused.
@@ -259,6 +332,12 @@ pub fn refused(c: usize, m: usize) -> Vec<Case> {
     put("7, base row", Own::Changes(0), 3 * (c + 2), &|t| Edit::Add(row(c, t.keys[t.s])));
     put("7, added row", Own::Added, 3 * (c + 2), &|t| Edit::Add(row(c, t.keys[t.s] - 2)));
     put("5, strike", Own::Changes(0), c + 2, &|t| Edit::Strike(scope::rows_after(t.keys.len(), &t.layer)));
+    put("9, renumber", Own::Changes(0), full, &|t| Edit::Renumber(t.base(), 1));
+    put("9, renumber, room for a strike", Own::Changes(0), c + 2 + full, &|t| Edit::Renumber(t.base(), t.keys[t.s] + 1));
+    put("9, renumber, 1 change", Own::Changes(1), full, &|t| Edit::Renumber(t.base(), t.keys[t.keys.len() - 1] + 2));
+    put("7, renumber to a base row's", Own::Added, 3 * (c + 2), &|t| Edit::Renumber(t.added(), t.keys[t.s]));
+    put("7, renumber to an added row's", Own::Added, 0, &|t| Edit::Renumber(t.base(), t.keys[t.s] - 2));
+    put("5, renumber", Own::Changes(0), c + 2, &|t| Edit::Renumber(scope::rows_after(t.keys.len(), &t.layer), 1));
     put("6, change", Own::Changes(0), c + 2, &|t| Edit::Change(t.base(), 0, 5));
     if c > 1 {
         put("9, change", Own::Changes(0), full, &|t| Edit::Change(t.base(), 1, 5));
@@ -267,18 +346,29 @@ pub fn refused(c: usize, m: usize) -> Vec<Case> {
     all
 }
 
-/// How many ways of c/control.c there are, and the bar that each breaks, by a word of it.
-pub const CONTROLS: [&str; 6] = ["times", "freed", "in front", "outside", "outside", "neither"];
+/// The ways of going wrong, six strikes of c/control.c, a renumbering by a strike and an add, and one of c/control.c, and the bar that each
+/// breaks, by a word of it.
+pub const CONTROLS: [&str; 8] = ["times", "freed", "in front", "outside", "outside", "neither", "times", "neither"];
 
-/// Strikes of a base row with two changes and more that go wrong, each in its way; of the last with one change. The layer ends with a strike,
-/// so that zeros are freed.
+/// Strikes of a base row with two changes and more that go wrong, each in its way, and of the last with one change; a renumbering upward of a
+/// row with none, and of a row with one. The layer ends with a strike, so that zeros are freed.
 pub fn controls(c: usize) -> Vec<Case> {
     (0..CONTROLS.len())
         .filter_map(|way| {
-            let k = if way == 5 { 1 } else { c - 1 };
+            let k = [c - 1, c - 1, c - 1, c - 1, c - 1, 1, 0, 1][way];
             let stage = stages(c, 69, Own::Changes(k)).into_iter().find(|t| t.at == "middle")?;
-            let i = stage.layer.iter().position(|e| e.pos == stage.s as u64)?;
-            Some(stage.case("control", c, 3 * (c + 2), Edit::Control(way, i, k)))
+            let r = stage.base();
+            let mut row = scope::table(&stage.layer, &scope::rows_of(c, stage.keys.len(), &whole(c, &stage.keys)))[r].clone();
+            let i = stage.layer.iter().position(|e| e.pos >= stage.s as u64)?;
+            // an even row that lies further on, and has no entry
+            let p = stage.s + 20;
+            row[0] = stage.keys[p] - 2;
+            let edit = match way {
+                6 => Edit::Twice(r, row),
+                7 => Edit::Between(i, stage.layer.iter().position(|e| e.pos >= p as u64)?, p, row),
+                _ => Edit::Control(way, i, k),
+            };
+            Some(stage.case("control", c, 3 * (c + 2), edit))
         })
         .collect()
 }

@@ -1,4 +1,4 @@
-//! The scope by brute force: filters, counts and sorts over vectors, no cursor. Written from docs/SCOPE.md alone.
+//! The scope by brute force: filters, counts and sorts over vectors, no cursor. Written from docs/SCOPE.md and docs/REQUESTS.md alone.
 
 pub const ADD: u64 = 65_535;
 pub const STRIKE: u64 = 65_534;
@@ -213,6 +213,17 @@ pub fn with_change(c: usize, keys: &[u64], layer: &[Entry], r: usize, j: usize, 
     }
 }
 
+/// Row number r of the table read through the layer gets the number g: as it is where that is its own, else struck, and added with g.
+pub fn with_number(c: usize, rows: &[Vec<u64>], layer: &[Entry], r: usize, g: u64) -> Vec<Entry> {
+    let keys: Vec<u64> = rows.iter().map(|row| row[0]).collect();
+    let mut row = table(layer, rows)[r].clone();
+    if row[0] == g {
+        return layer.to_vec();
+    }
+    row[0] = g;
+    with_add(&keys, &with_strike(c, &keys, layer, r), &row)
+}
+
 /// A layer's slice after an edit that left `new` where m entries stood.
 fn edited(c: usize, m: usize, raw: &mut [u64], new: &[Entry]) {
     let flat = numbers(new);
@@ -366,6 +377,34 @@ pub fn kw_change(c: usize, m: usize, raw: &mut [u64], keys: &[u64], r: usize, j:
             return Err((6, 0));
         }
         store(c, m, raw, with_change(c, keys, &layer, r, j, v), keys.len(), false)
+    })())
+}
+
+/// The rows of a whole table, its c columns of n rows end to end.
+pub fn rows_of(c: usize, n: usize, whole: &[u64]) -> Vec<Vec<u64>> {
+    (0..n).map(|s| (0..c).map(|j| whole[j * n + s]).collect()).collect()
+}
+
+/// A whole table, its columns end to end.
+pub fn whole_of(c: usize, rows: &[Vec<u64>]) -> Vec<u64> {
+    (0..c).flat_map(|j| rows.iter().map(move |row| row[j])).collect()
+}
+
+pub fn kw_renumber(c: usize, n: usize, m: usize, raw: &mut [u64], whole: &[u64], r: usize, g: u64) -> Pair {
+    if !arguments(c, n, m, raw.len()) || whole.len() < c * n {
+        return (1, 0);
+    }
+    answer((|| {
+        let rows = rows_of(c, n, whole);
+        let layer = check_fit(c, m, raw, &whole[..n])?;
+        let shown = column(&layer, &whole[..n], 0);
+        if r >= shown.len() {
+            return Err((5, 0));
+        }
+        if (0..shown.len()).any(|i| i != r && shown[i] == g) {
+            return Err((7, 0));
+        }
+        store(c, m, raw, with_number(c, &rows, &layer, r, g), n, false)
     })())
 }
 

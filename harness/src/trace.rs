@@ -24,6 +24,7 @@ static MARK: AtomicU64 = AtomicU64::new(0);
 
 extern "C" {
     fn control_strike(way: usize, c: usize, m: usize, layer: *mut u64, keys: *const u64, i: usize, k: usize) -> usize;
+    fn control_renumber(c: usize, m: usize, layer: *mut u64, keys: *const u64, row: *const u64, i: usize, t: usize, p: usize) -> usize;
 }
 
 #[derive(Clone, Debug)]
@@ -32,11 +33,18 @@ pub enum Edit {
     Strike(usize),
     /// Row number, column, value.
     Change(usize, usize, u64),
+    /// Row number, group number.
+    Renumber(usize, u64),
     /// c/control.c: the way it goes wrong, and the entries that a strike replaces: the first, and how many.
     Control(usize, usize, usize),
+    /// A renumbering by a strike and an add: row number, and the row with its new number.
+    Twice(usize, Vec<u64>),
+    /// c/control.c: the entry that the strike replaces, the one that the add stands before, its position, and the row with its new number.
+    Between(usize, usize, usize, Vec<u64>),
 }
 
-/// An edit of a slice, which begins so many numbers behind a fixed address, by the archive or by plain C.
+/// An edit of a slice, which begins so many numbers behind a fixed address, by the archive or by plain C. It is lent the key column, and for
+/// a renumbering the whole table.
 #[derive(Clone, Debug)]
 pub struct Call {
     pub edit: Edit,
@@ -44,7 +52,7 @@ pub struct Call {
     pub c: usize,
     pub m: usize,
     pub slice: Vec<u64>,
-    pub keys: Vec<u64>,
+    pub lent: Vec<u64>,
     pub offset: usize,
 }
 
@@ -77,24 +85,27 @@ impl Call {
             Edit::Add(row) => (0, row, [0, 0, 0]),
             Edit::Strike(r) => (1, &none, [*r, 0, 0]),
             Edit::Change(r, j, v) => (2, &none, [*r, *j, *v as usize]),
-            Edit::Control(way, i, k) => (3, &none, [*i, *k, *way]),
+            Edit::Renumber(r, g) => (3, &none, [*r, 0, *g as usize]),
+            Edit::Control(way, i, k) => (4, &none, [*i, *k, *way]),
+            Edit::Twice(r, row) => (5, row, [*r, 0, 0]),
+            Edit::Between(i, t, p, row) => (6, row, [*i, *t, *p]),
         };
-        let head: [usize; HEAD] = [what, self.c, self.m, self.slice.len(), self.keys.len(), row.len(), r, j, v, self.offset, self.plain as usize];
+        let head: [usize; HEAD] = [what, self.c, self.m, self.slice.len(), self.lent.len(), row.len(), r, j, v, self.offset, self.plain as usize];
         let (head, guard) = (head.map(|x| x as u64), [GUARDED; GUARD]);
-        [&head[..], &guard, &self.slice, &guard, &self.keys, row].concat()
+        [&head[..], &guard, &self.slice, &guard, &self.lent, row].concat()
     }
 }
 
 /// The traced program: says where the marker and the slices are, then makes the calls that it reads.
 pub fn serve() {
     let [mut from, mut to] = [0, 1].map(|fd| ManuallyDrop::new(unsafe { File::from_raw_fd(fd) }));
-    let (mut region, mut keys, mut row, mut head) = (vec![0u64; MOST_NUMBERS], vec![0u64; 4096], vec![0u64; 8], [0u64; HEAD]);
+    let (mut region, mut lent, mut row, mut head) = (vec![0u64; MOST_NUMBERS], vec![0u64; 8 * 4096], vec![0u64; 8], [0u64; HEAD]);
     let mark = MARK.as_ptr();
     to.write_all(bytes(&[mark as u64, region.as_ptr() as u64])).unwrap();
     while from.read_exact(bytes_mut(&mut head)).is_ok() {
         let [what, c, m, len, n, width, r, j, v, offset, plain] = head.map(|x| x as usize);
         let who = [&CARD, &PLAIN][plain];
-        let (region, keys, row) = (&mut region[offset..offset + len + 2 * GUARD], &mut keys[..n], &mut row[..width]);
+        let (region, keys, row) = (&mut region[offset..offset + len + 2 * GUARD], &mut lent[..n], &mut row[..width]);
         for part in [&mut *region, &mut *keys, &mut *row] {
             from.read_exact(bytes_mut(part)).unwrap();
         }
@@ -104,7 +115,13 @@ pub fn serve() {
             0 => who.add(c, m, slice, keys, row),
             1 => who.strike(c, m, slice, keys, r),
             2 => who.change(c, m, slice, keys, r, j, v as u64),
-            _ => (0, unsafe { control_strike(v, c, m, slice.as_mut_ptr(), keys.as_ptr(), r, j) } as u64),
+            3 => who.renumber(c, keys.len() / c, m, slice, keys, r, v as u64),
+            4 => (0, unsafe { control_strike(v, c, m, slice.as_mut_ptr(), keys.as_ptr(), r, j) } as u64),
+            5 => {
+                let (number, k) = who.strike(c, m, slice, keys, r);
+                if number == 0 { who.add(c, k as usize, slice, keys, row) } else { (number, k) }
+            }
+            _ => (0, unsafe { control_renumber(c, m, slice.as_mut_ptr(), keys.as_ptr(), row.as_ptr(), r, j, v) } as u64),
         };
         unsafe { mark.write_volatile(2) };
         to.write_all(bytes(&[answer.0, answer.1])).unwrap();

@@ -58,6 +58,10 @@ fn printed(input: &[u8]) -> String {
                 let answer = scope::kw_change(3, m, &mut raw, &keys, *r as usize, *j as usize, *v);
                 Some(entered(answer, &mut m, &mut edited))
             }
+            (b"!", Some([r, g])) => {
+                let answer = scope::kw_renumber(3, rows.len(), m, &mut raw, &scope::whole_of(3, &rows), *r as usize, *g);
+                Some(entered(answer, &mut m, &mut edited))
+            }
             _ => None,
         };
         match said {
@@ -112,7 +116,7 @@ fn examples() {
             met += 1;
         }
     }
-    assert!(met >= 5);
+    assert!(met >= 7);
 }
 
 #[test]
@@ -127,11 +131,12 @@ fn stored_input() {
 
 /// A line that is mostly readable, and sometimes long, cut or with another byte in it.
 fn line(rng: &mut Rng, base: u64) -> Vec<u8> {
-    let mut text = match rng.below(9) {
+    let mut text = match rng.below(11) {
         0..=2 => format!("B {} {} {}", base, rng.below(9), rng.below(99)),
         3 | 4 => format!("+ {} {} {}", rng.below(400), rng.below(9), rng.below(99)),
         5 => format!("- {}", rng.below(40)),
         6 | 7 => format!("= {} {} {}", rng.below(40), rng.below(4), rng.next()),
+        8 | 9 => format!("! {} {}", rng.below(40), rng.below(400)),
         _ => "7".repeat(rng.below(200)),
     }
     .into_bytes();

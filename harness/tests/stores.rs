@@ -1,5 +1,5 @@
-//! An edit stores no number of the new layer twice, none in front of its place and none outside the layer, and a refused edit stores none:
-//! counted from a trace of memory of the built archive, not from its source.
+//! An edit stores no number of the new layer twice, none in front of its place and none outside the layer, and a refused edit stores none, nor
+//! a renumbering of a row to its own number: counted from a trace of memory of the built archive, not from its source.
 
 use harness::edits::{self, Case, CONTROLS};
 use std::path::Path;
@@ -7,6 +7,7 @@ use std::path::Path;
 fn counted(mut cases: Vec<Case>) -> Vec<(Case, edits::Sum)> {
     let program = Path::new(env!("CARGO_BIN_EXE_stores"));
     let sums = edits::sums(program, &mut cases).unwrap_or_else(|words| panic!("{words}"));
+    println!("{} edits, of them {} renumberings", cases.len(), cases.iter().filter(|case| case.kind.contains("renumber")).count());
     cases.into_iter().zip(sums).collect()
 }
 
@@ -30,6 +31,15 @@ fn refused() {
     let counted = counted((1..=8).flat_map(|c| [0, 1, 9, 68, 512].map(|m| edits::refused(c, m))).flatten().collect());
     for (case, sum) in &counted {
         assert!(case.refused() && sum.stored == 0, "{}", edits::line(case, sum));
+    }
+    all_kept(&counted);
+}
+
+#[test]
+fn own_number() {
+    let counted = counted((1..=8).flat_map(|c| [0, 1, 9, 68, 512].map(|m| edits::own_numbers(c, m))).flatten().collect());
+    for (case, sum) in &counted {
+        assert!(case.nothing_changes() && sum.stored == 0, "{}", edits::line(case, sum));
     }
     all_kept(&counted);
 }

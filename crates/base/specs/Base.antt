@@ -1,10 +1,11 @@
--- A table with room for 512 base rows in three columns, and what a base row does to it and says.
+-- A table with room for 512 base rows in three columns, the rows that stand in it, and what a base row does to it and says.
 use mathlib.Core.Path.{_≡_}
 use mathlib.Core.Bool.{Bool, true, false, not, cond, _||_}
-use mathlib.Core.List.{List}
+use mathlib.Core.List.{List, [], _∷_}
 use Prim.Native.Nat.{ℕ, _+_, _-_, _*_, _≤_}
 use lib.ListN.{length, getD, take, drop, set}
 use lib.Dec.{leb, eqb}
+use Rattle.model.specs.Row.{Table}
 use Rattle.text.specs.declared.Said.{Said}
 use Rattle.text.specs.declared.Said.the-variants.{Nothing, Unread, Refused}
 use Rattle.base.specs.declared.Counts.{Counts}
@@ -32,6 +33,21 @@ sheetOf table layer =
 -- the base key column
 abbrev pub baseKeys : Counts → Sheet → List ℕ
 baseKeys d x = take (d .rows) (x .keys)
+
+-- three columns as rows
+unfoldable pub rowsOf : List ℕ → List ℕ → List ℕ → Table
+rowsOf [] S M = []
+rowsOf (g ∷ K) [] M = []
+rowsOf (g ∷ K) (s ∷ S) [] = []
+rowsOf (g ∷ K) (s ∷ S) (m ∷ M) = (g ∷ s ∷ m ∷ []) ∷ rowsOf K S M
+
+-- the first n rows of a table whose columns stand end to end
+abbrev pub tableOf : ℕ → List ℕ → Table
+tableOf n table = rowsOf (take n (columnOf 0 table)) (take n (columnOf 1 table)) (take n (columnOf 2 table))
+
+-- the base table that stands
+abbrev pub baseTable : Counts → Sheet → Table
+baseTable d x = rowsOf (take (d .rows) (x .keys)) (take (d .rows) (x .sources)) (take (d .rows) (x .masks))
 
 -- g is not above the last of the first n keys
 abbrev pub belowLast : ℕ → ℕ → List ℕ → Bool

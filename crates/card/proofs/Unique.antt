@@ -28,6 +28,8 @@ use Rattle.card.proofs.kw_strike.Kinds as strike-call
 use Rattle.card.proofs.kw_strike.Reads as strike-promise
 use Rattle.card.proofs.kw_change.Kinds as change-call
 use Rattle.card.proofs.kw_change.Reads as change-promise
+use Rattle.card.proofs.kw_renumber.Kinds as renumber-call
+use Rattle.card.proofs.kw_renumber.Reads as renumber-promise
 use Rattle.card.proofs.kw_combine.Kinds as combine-call
 use Rattle.card.proofs.kw_combine.Reads as combine-promise
 use Rattle.card.proofs.kw_move.Kinds as move-call
@@ -109,6 +111,11 @@ module _ (κs : Lfts 2) (a : Dens κs change-call.ps) (s t : AtExit (endedOf 2 c
   pub kw-change-unique : (x y : Told) → change-promise.Post κs a x s → change-promise.Post κs a y t
       → (x ≡ y) × (now (s .1 .1 .0) ≡ now (t .1 .1 .0))
   kw-change-unique x y p q = (one-told x y (p .0 .0 ∙ sym (q .0 .0)) (p .0 .1 ∙ sym (q .0 .1)), p .1 ∙ sym (q .1))
+
+module _ (κs : Lfts 2) (a : Dens κs renumber-call.ps) (s t : AtExit (endedOf 2 renumber-call.ps renumber-call.r) κs) where
+  pub kw-renumber-unique : (x y : Told) → renumber-promise.Post κs a x s → renumber-promise.Post κs a y t
+      → (x ≡ y) × (now (s .1 .1 .1 .0) ≡ now (t .1 .1 .1 .0))
+  kw-renumber-unique x y p q = (one-told x y (p .0 .0 ∙ sym (q .0 .0)) (p .0 .1 ∙ sym (q .0 .1)), p .1 ∙ sym (q .1))
 
 module _ (κs : Lfts 4) (a : Dens κs combine-call.ps) (s t : AtExit (endedOf 4 combine-call.ps combine-call.r) κs) where
   pub kw-combine-unique : (x y : Told) → combine-promise.Post κs a x s → combine-promise.Post κs a y t

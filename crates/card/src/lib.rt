@@ -19,6 +19,8 @@ ghost use Rattle.model.specs.Calls.{
   strikeSlice,
   changeAnswer,
   changeSlice,
+  renumberAnswer,
+  renumberSlice,
   combineAnswer,
   combineSlice,
   moveAnswer,
@@ -128,6 +130,22 @@ pub extern "C" fn kw_change(
         Tells o (changeAnswer c m L K r j v) × (now (layer .exit) ≡ changeSlice c m L K r j v)) ⌝ }
 {
     tell(change::change(c, m, layer, keys, r, j, v))
+}
+
+#[no_mangle]
+pub extern "C" fn kw_renumber(
+    c: usize,
+    n: usize,
+    m: usize,
+    layer: &mut [u64],
+    table: &[u64],
+    r: usize,
+    g: u64,
+) -> Told
+    ensures { λ o. ⌜ (let L = now (layer .entry) in let B = now (table .entry) in
+        Tells o (renumberAnswer c n m L B r g) × (now (layer .exit) ≡ renumberSlice c n m L B r g)) ⌝ }
+{
+    tell(renumber::renumber(c, n, m, layer, table, r, g))
 }
 
 #[no_mangle]

@@ -1,13 +1,12 @@
 -- After any lines, from the empty table and layer on, the base keys ascend, and the layer keeps form and fits.
 -- Assumes nothing.
-use mathlib.Core.Path.{_≡_, refl, sym, ap, _∙_}
+use mathlib.Core.Path.{_≡_, refl, sym, _∙_}
 use mathlib.Core.Bool.{Bool, true, false, not, cond, _||_, true≢false}
 use mathlib.Core.List.{List, [], _∷_, _++_}
-use Prim.Native.Nat.{ℕ, _+_, _-_, _*_, _≤_, _<_, max, _/_}
+use Prim.Native.Nat.{ℕ, _+_, _-_, _*_, _≤_, _<_}
 use native.Mathlib.Omega.{arith}
 use native.Mathlib.Numerals.{add-one}
-use native.Mathlib.Nat.{min-le-right, le-div-iff-mul-le}
-use lib.ListN.{length, take, drop, getD, set, replicate, length-set, length-append, length-drop, length-replicate}
+use lib.ListN.{length, take, drop, getD, set, length-set, length-append, length-drop}
 use lib.Seq.{take-suc-set, getD-take, length-take-le}
 use lib.Dec.{leb, ltb}
 use borrow.Author.Tests.{lt-ltb, le-ltb, le-leb, leb-false, ne-eqb}
@@ -15,33 +14,46 @@ use Rattle.order.specs.Lists.{rising, ascending}
 use Rattle.order.proofs.Tests.{and-l, and-r, and-of, or-false}
 use Rattle.words.specs.declared.Answer.{Answer}
 use Rattle.words.specs.declared.Answer.the-variants as answer
-use Rattle.model.specs.Row.{Table, key, keys}
+use Rattle.model.specs.Row.{key, keys}
 use Rattle.model.specs.Cell.{to}
-use Rattle.model.specs.Layer.{Layer, rowsAfter}
-use Rattle.model.specs.Raw.{layerOf, entriesAt, flat, room}
+use Rattle.model.specs.Layer.{rowsAfter}
+use Rattle.model.specs.Raw.{layerOf, entriesAt, room}
 use Rattle.model.specs.Fit.{fitPlace}
 use Rattle.model.specs.Form.{formPlace, argsOk}
 use Rattle.model.specs.Refusals.{breaksForm}
-use Rattle.model.specs.Steps.{Step as Wish, adding, striking, changing, stepOn}
+use Rattle.model.specs.Steps.{Step as Wish, adding, striking, changing, renumbering, stepOn}
 use Rattle.model.specs.Calls.{edited, formAnswer, fitAnswer}
-use Rattle.fit.specs.Ready.{Ready}
 use Rattle.fit.proofs.Answers.{ready-done, fit-done, fitted, ready-form}
-use Rattle.edit.specs.Runs.{stepAnswer, stepSlice}
-use Rattle.edit.proofs.Accepting.{Accepts, accepts}
-use Rattle.edit.proofs.Laws.{edit-layer, edit-next}
+use Rattle.edit.specs.Runs.{stepAnswer, Lent}
+use Rattle.edit.proofs.Accepting.{accepts}
+use Rattle.edit.proofs.Laws.{edit-next}
+use Rattle.edit.proofs.Laid.{edit-length}
 use Rattle.line.specs.declared.Line.{Line}
-use Rattle.line.specs.declared.Line.the-variants.{Base, Add, Strike, Change, Unreadable}
+use Rattle.line.specs.declared.Line.the-variants.{Base, Add, Strike, Change, Renumber, Unreadable}
 use Rattle.line.specs.Line.{lineOf}
 use Rattle.text.specs.declared.Said.the-variants.{Unread, Refused}
 use Rattle.base.specs.declared.Counts.{Counts}
-use Rattle.base.specs.Base.{Sheet, sheetOf, Roomy, mostBase, baseKeys, belowLast, shut, stay, grown, baseReply, baseTaken, withRow}
+use Rattle.base.specs.Base.{
+  Sheet,
+  sheetOf,
+  Roomy,
+  mostBase,
+  baseKeys,
+  baseTable,
+  belowLast,
+  shut,
+  stay,
+  grown,
+  baseReply,
+  baseTaken,
+  withRow,
+}
 use Rattle.reply.specs.Reply.{entered}
 use Rattle.hear.specs.Heard.{heard, withLayer, after}
 use Rattle.intake.specs.Reading.{Reading, lineIn}
 use Rattle.feed.specs.Input.{atStart, nothingRead, linesIn}
-use Rattle.show.specs.Shown.{baseTable}
 use Rattle.console.specs.Standing.{sheetLayer, Standing}
-use Rattle.show.proofs.Printed.{Columns, columns}
+use Rattle.show.proofs.Printed.{Columns, columns, rows-wide}
 
 -- ascending keys with a higher one behind them
 rising-more : (k : ℕ) (K : List ℕ) (g : ℕ) → rising k K ≡ true → getD (k ∷ K) (length K) 0 < g → rising k (K ++ (g ∷ [])) ≡ true
@@ -79,43 +91,6 @@ empty-fits : (raw K : List ℕ) → length K ≤ mostBase → ascending K ≡ tr
 empty-fits raw K h a =
     sym (fit-done 3 0 raw K (length K)
     (sym (ready-done 3 0 raw K (length K) (empty-form raw (length K) h) a (fitPlace K (layerOf 3 0 raw)) refl (omega arith))))
-
--- An accepted edit leaves a slice of the same length.
-module _ (m : ℕ) (raw : List ℕ) (T : Table) (w : Wish) (k : ℕ) (h : stepAnswer 3 m raw (keys T) w ≡ answer.Done k) where
-  abbrev M : Layer
-  M = stepOn (keys T) w (layerOf 3 m raw)
-
-  abbrev new : List ℕ
-  new = stepSlice 3 m raw (keys T) w k
-
-  A : Accepts 3 m raw T w k
-  A = accepts 3 m raw T w k h
-
-  F : Ready 3 k new (keys T)
-  F = fitted 3 k new (keys T) 0 (edit-next 3 m raw T w k h)
-
-  numbers-size : length (flat 3 M) ≡ k * 5
-  numbers-size =
-      ap (λ (L : Layer). length (flat 3 L)) (sym (edit-layer 3 m raw T w k h))
-      ∙ (ap length (ready-form F .numbers) ∙ length-take-le (k * 5) new (ready-form F .held .room))
-
-  within : k * 5 ≤ length raw
-  unfolding room
-  within = le-div-iff-mul-le {k = 5} (omega arith) .0 (omega (arith, A .room, min-le-right 512 (length raw / 5)))
-
-  same-length : length new ≡ length raw
-  same-length =
-      omega (
-        arith,
-        A .size,
-        A .form .held .room,
-        numbers-size,
-        within,
-        length-append (flat 3 M) (replicate ((m - length M) * 5) 0 ++ drop (max m (length M) * 5) raw),
-        length-append (replicate ((m - length M) * 5) 0) (drop (max m (length M) * 5) raw),
-        length-replicate {A = ℕ} ((m - length M) * 5) 0,
-        length-drop (max m (length M) * 5) raw,
-      )
 
 -- What every line keeps: the columns hold 512 rows and the slice its length, the fit check accepts the layer, and the
 -- layer is empty while base rows are taken.
@@ -159,13 +134,20 @@ module _ (d : Counts) (x : Sheet) (R : Roomy d x) where
   unfolding key
   keys-are = columns-are .zeroth
 
+-- whatever an edit is lent of the base table has three columns
+pub base-lent : (d : Counts) (x : Sheet) (w : Wish) → Lent 3 (baseTable d x) w
+base-lent d x (adding row) = tt
+base-lent d x (striking r) = tt
+base-lent d x (changing r j e) = tt
+base-lent d x (renumbering r g) = rows-wide (take (d .rows) (x .keys)) (take (d .rows) (x .sources)) (take (d .rows) (x .masks))
+
 -- an edit line
 module _ {len : ℕ} {d : Counts} {x : Sheet} (s : Kept len d x) (w : Wish) where
   abbrev told : Answer
-  told = stepAnswer 3 (d .entries) (x .layer) (baseKeys d x) w
+  told = stepAnswer 3 (d .entries) (x .layer) (baseTable d x) w
 
   abbrev slice : Answer → List ℕ
-  slice a = edited 3 (d .entries) a (stepOn (baseKeys d x) w (sheetLayer d x)) (x .layer)
+  slice a = edited 3 (d .entries) a (stepOn (baseTable d x) w (sheetLayer d x)) (x .layer)
 
   edit-kept : Kept len (entered d told .counts) (withLayer x (slice told))
   edit-kept = go told refl
@@ -174,7 +156,7 @@ module _ {len : ℕ} {d : Counts} {x : Sheet} (s : Kept len d x) (w : Wish) wher
       go (answer.Refused q) e = lined s refl refl (λ h. absurd (true≢false h))
       go (answer.Done k) e =
           let T = baseTable d x in
-          let h : stepAnswer 3 (d .entries) (x .layer) (keys T) w ≡ answer.Done k = rw (keys-are d x (s .roomy)) e in
+          let l = base-lent d x w in
           record {
             roomy = record {
               standing = s .roomy .standing;
@@ -182,9 +164,9 @@ module _ {len : ℕ} {d : Counts} {x : Sheet} (s : Kept len d x) (w : Wish) wher
               inSources = s .roomy .inSources;
               inMasks = s .roomy .inMasks;
             };
-            size = rw (keys-are d x (s .roomy)) at (same-length (d .entries) (x .layer) T w k h) ∙ s .size;
-            held = rw (← s .size) (accepts 3 (d .entries) (x .layer) T w k h .room);
-            accepted = rw (keys-are d x (s .roomy)) at (edit-next 3 (d .entries) (x .layer) T w k h);
+            size = edit-length 3 (d .entries) (x .layer) T w k l e ∙ s .size;
+            held = rw (← s .size) (accepts 3 (d .entries) (x .layer) T w k l e .room);
+            accepted = rw (keys-are d x (s .roomy)) at (edit-next 3 (d .entries) (x .layer) T w k l e);
             early = λ h. absurd (true≢false h);
           }
 
@@ -237,9 +219,10 @@ module _ {len : ℕ} {d : Counts} {x : Sheet} (s : Kept len d x) (g v m : ℕ) w
 pub line-kept : (l : Line) {len : ℕ} {d : Counts} {x : Sheet} → Kept len d x → Kept len (heard l d x .counts) (after l d x)
 unfolding heard after
 line-kept (Base g v m) s = base-kept s g v m
-line-kept (Add g v m) s = edit-kept s (adding (g ∷ v ∷ m ∷ []))
-line-kept (Strike r) s = edit-kept s (striking r)
-line-kept (Change r j v) s = edit-kept s (changing r j (to v))
+line-kept (Add g v m) {d = d} {x = x} s = rw (keys-are d x (s .roomy)) at (edit-kept s (adding (g ∷ v ∷ m ∷ [])))
+line-kept (Strike r) {d = d} {x = x} s = rw (keys-are d x (s .roomy)) at (edit-kept s (striking r))
+line-kept (Change r j v) {d = d} {x = x} s = rw (keys-are d x (s .roomy)) at (edit-kept s (changing r j (to v)))
+line-kept (Renumber r g) s = edit-kept s (renumbering r g)
 line-kept Unreadable s = lined s refl refl (λ h. h)
 
 lines-kept : (ls : List (List ℕ)) {len : ℕ} (i : Reading) → Kept len (i .counts) (i .sheet) →

@@ -12,31 +12,31 @@ use borrow.Author.Tests.{leb-false}
 use Rattle.order.proofs.Tests.{or-false}
 use Rattle.words.specs.declared.Answer.{Answer}
 use Rattle.words.specs.declared.Answer.the-variants as answer
-use Rattle.model.specs.Row.{Table, keys}
+use Rattle.model.specs.Row.{Table}
 use Rattle.model.specs.Cell.{to}
 use Rattle.model.specs.Raw.{layerOf, entriesAt}
 use Rattle.model.specs.Read.{read}
-use Rattle.model.specs.Steps.{Step as Wish, adding, striking, changing, stepOn, stepBy}
+use Rattle.model.specs.Steps.{Step as Wish, adding, striking, changing, renumbering, stepOn, stepBy}
 use Rattle.model.specs.Calls.{edited}
 use Rattle.theory.proofs.Steps.{empty-reads}
 use Rattle.edit.specs.Runs.{stepAnswer}
 use Rattle.edit.proofs.Laws.{edit-reads}
 use Rattle.line.specs.declared.Line.{Line}
-use Rattle.line.specs.declared.Line.the-variants.{Base, Add, Strike, Change, Unreadable}
+use Rattle.line.specs.declared.Line.the-variants.{Base, Add, Strike, Change, Renumber, Unreadable}
 use Rattle.line.specs.Line.{lineOf}
 use Rattle.text.specs.declared.Said.the-variants.{Unread, Refused}
 use Rattle.base.specs.declared.Counts.{Counts}
-use Rattle.base.specs.Base.{Sheet, Roomy, mostBase, baseKeys, belowLast, shut, stay, grown, withRow}
+use Rattle.base.specs.Base.{Sheet, Roomy, mostBase, rowsOf, baseTable, belowLast, shut, stay, grown, withRow}
 use Rattle.reply.specs.Reply.{entered}
-use Rattle.hear.specs.Heard.{added, struck, changed, heard, withLayer, after}
+use Rattle.hear.specs.Heard.{heard, withLayer, after}
 use Rattle.intake.specs.Reading.{Reading, lineIn}
 use Rattle.feed.specs.Input.{atStart, nothingRead, linesIn, linesOf}
 use Rattle.text.specs.Text.{header, tableText}
-use Rattle.show.specs.Shown.{rowsOf, baseTable, shownTable}
+use Rattle.show.specs.Shown.{shownTable}
 use Rattle.console.specs.Standing.{sheetLayer}
 use Rattle.console.specs.Told.{deedDone, ifSilent, tableIn, closing, printed}
 use Rattle.console.proofs.Lines.{input-heard}
-use Rattle.console.proofs.Standing.{Kept, as-long, keys-are, one-more, line-kept, start-kept}
+use Rattle.console.proofs.Standing.{Kept, as-long, keys-are, base-lent, one-more, line-kept, start-kept}
 use Rattle.console.proofs.Whole.{whole-table-printed}
 
 -- three columns with a value more each are the rows with a row more
@@ -57,14 +57,20 @@ unfolding layerOf entriesAt
 empty-shown T m raw e = rw e (empty-reads T)
 
 module _ {len : ℕ} {d : Counts} {x : Sheet} (k : Kept len d x) where
-  -- an edit line
-  edit-shown : (w : Wish) (a : Answer) → stepAnswer 3 (d .entries) (x .layer) (baseKeys d x) w ≡ a →
-      shownTable (entered d a .counts) (withLayer x (edited 3 (d .entries) a (stepOn (baseKeys d x) w (sheetLayer d x)) (x .layer)))
+  -- what is shown after an edit that answered so
+  abbrev EditShown : Wish → Answer → Type 0
+  EditShown w a =
+      let L = stepOn (baseTable d x) w (sheetLayer d x) in
+      shownTable (entered d a .counts) (withLayer x (edited 3 (d .entries) a L (x .layer)))
       ≡ ifSilent (entered d a .said) (stepBy w (shownTable d x)) (shownTable d x)
-  edit-shown w (answer.Refused q) e = refl
-  edit-shown w (answer.Done n) e =
-      let h : stepAnswer 3 (d .entries) (x .layer) (keys (baseTable d x)) w ≡ answer.Done n = rw (keys-are d x (k .roomy)) e in
-      rw (keys-are d x (k .roomy)) at (edit-reads 3 (d .entries) (x .layer) (baseTable d x) w n h)
+
+  -- an edit line
+  edit-shown : (w : Wish) → EditShown w (stepAnswer 3 (d .entries) (x .layer) (baseTable d x) w)
+  edit-shown w = go (stepAnswer 3 (d .entries) (x .layer) (baseTable d x) w) refl
+    where
+      go : (a : Answer) → stepAnswer 3 (d .entries) (x .layer) (baseTable d x) w ≡ a → EditShown w a
+      go (answer.Refused q) e = refl
+      go (answer.Done n) e = edit-reads 3 (d .entries) (x .layer) (baseTable d x) w n (base-lent d x w) e
 
   -- a base row
   module _ (g s m : ℕ) where
@@ -100,9 +106,10 @@ line-shown : (l : Line) {len : ℕ} {d : Counts} {x : Sheet} → Kept len d x �
     shownTable (heard l d x .counts) (after l d x) ≡ ifSilent (heard l d x .said) (deedDone l (shownTable d x)) (shownTable d x)
 unfolding heard after
 line-shown (Base g s m) {d = d} {x = x} k = base-shown k g s m (shut d) (belowLast g (d .rows) (x .keys)) refl
-line-shown (Add g s m) {d = d} {x = x} k = edit-shown k (adding (g ∷ s ∷ m ∷ [])) (added d x (g ∷ s ∷ m ∷ [])) refl
-line-shown (Strike r) {d = d} {x = x} k = edit-shown k (striking r) (struck d x r) refl
-line-shown (Change r j v) {d = d} {x = x} k = edit-shown k (changing r j (to v)) (changed d x r j v) refl
+line-shown (Add g s m) {d = d} {x = x} k = rw (keys-are d x (k .roomy)) at (edit-shown k (adding (g ∷ s ∷ m ∷ [])))
+line-shown (Strike r) {d = d} {x = x} k = rw (keys-are d x (k .roomy)) at (edit-shown k (striking r))
+line-shown (Change r j v) {d = d} {x = x} k = rw (keys-are d x (k .roomy)) at (edit-shown k (changing r j (to v)))
+line-shown (Renumber r g) k = edit-shown k (renumbering r g)
 line-shown Unreadable k = refl
 
 lines-shown : (ls : List (List ℕ)) {len : ℕ} (i : Reading) → Kept len (i .counts) (i .sheet) →

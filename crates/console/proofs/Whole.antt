@@ -18,11 +18,11 @@ use Rattle.theory.proofs.Column.{Wide, read-wide}
 use Rattle.read.proofs.Answers.{enough}
 use Rattle.fit.proofs.Answers.{fitted}
 use Rattle.base.specs.declared.Counts.{Counts}
-use Rattle.base.specs.Base.{Sheet, baseKeys, Roomy}
+use Rattle.base.specs.Base.{Sheet, baseKeys, baseTable, Roomy}
 use Rattle.intake.specs.Reading.{bytesIn}
 use Rattle.feed.specs.Input.{atStart, nothingRead, inputEnds, linesIn, linesOf}
 use Rattle.text.specs.Text.{header, tableText}
-use Rattle.show.specs.Shown.{baseTable, shownTable, ending, ifFormed, Formed}
+use Rattle.show.specs.Shown.{shownTable, ending, ifFormed, Formed}
 use Rattle.console.specs.Standing.{sheetLayer, Standing, WholeTable}
 use Rattle.show.proofs.Printed.{ReadColumns, read-columns, rows-wide}
 use Rattle.console.proofs.Lines.{input-heard}

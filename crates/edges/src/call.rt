@@ -30,6 +30,7 @@ fn view<'a>(a: Args, out: &'a [u64], layer: &[u64], base: &'a [u64]) {
 // add c m ; layer ; keys ; row
 // strike c m r ; layer ; keys
 // change c m r j v ; layer ; keys
+// number c n m r g ; layer ; table
 // combine c mr mw ; buffer ; keys ; R ; W
 // move c mx my ; X ; keys ; Y
 fn alter(word: u8, a: Args, lent: &mut [u64], one: &[u64], two: &[u64], three: &[u64]) -> Answer {
@@ -38,6 +39,7 @@ fn alter(word: u8, a: Args, lent: &mut [u64], one: &[u64], two: &[u64], three: &
         b'a' => add::add(a.c, a.m, lent, one, two),
         b's' => strike::strike(a.c, a.m, lent, one, a.r),
         b'h' => change::change(a.c, a.m, lent, one, a.r, a.j, a.v),
+        b'n' => renumber::renumber(a.c, a.m, a.r, lent, one, a.j, a.v),
         b'o' => combine::combine(a.c, one, a.m, two, a.r, three, lent),
         _ => pass::move_past(a.c, one, a.m, lent, a.r, two),
     }

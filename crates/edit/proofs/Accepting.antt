@@ -9,10 +9,11 @@ use mathlib.Core.List.{List, [], _++_, List·Memᴰ as Mem}
 use lib.ListN.{length, getD}
 use lib.Dec.{ltb, eqb}
 use borrow.Author.Tests.{ltb-true, ltb-false, leb-false, eqb-true, eqb-false, eq-eqb, not-false}
-use Rattle.order.specs.Lists.{any, ascending}
+use Rattle.order.specs.Lists.{any, ascending, without}
 use Rattle.order.proofs.Tests.{and-l, and-r}
 use Rattle.order.proofs.Members.{any-of, mem-map}
-use Rattle.order.proofs.Ascending.{AscFrom, At, asc-of, getD-at}
+use Rattle.order.proofs.Ascending.{AscFrom, At, asc-of, getD-at, at-mem}
+use Rattle.order.proofs.Edited.{without-map}
 use Rattle.words.specs.declared.Answer.the-variants.{Done, Refused}
 use Rattle.model.specs.Row.{Row, Table, key, keys}
 use Rattle.model.specs.Cell.{to}
@@ -21,7 +22,7 @@ use Rattle.model.specs.Raw.{layerOf, room as roomOf}
 use Rattle.model.specs.Form.{argsOk}
 use Rattle.model.specs.Read.{read, keysAfter}
 use Rattle.model.specs.Refusals.{Test, firstMet, shownKey}
-use Rattle.model.specs.Steps.{Step, adding, striking, changing, stepOn, Allowed}
+use Rattle.model.specs.Steps.{Step, adding, striking, changing, renumbering, stepOn, Allowed}
 use Rattle.model.specs.Calls.{
   formRows,
   fitRows,
@@ -31,16 +32,19 @@ use Rattle.model.specs.Calls.{
   strikeAnswer,
   changeRows,
   changeAnswer,
+  renumberRows,
+  renumberOver,
 }
 use Rattle.theory.proofs.Fit.{Good, good-of, key-kept, keys-length, fits-all}
 use Rattle.theory.proofs.Count.{read-length}
-use Rattle.theory.proofs.Column.{keys-read}
+use Rattle.theory.proofs.Column.{Wide, keys-read, read-wide}
+use Rattle.theory.proofs.Renumbered.{renumber-rows}
 use Rattle.theory.proofs.Edited.{strike-rows, change-rows}
 use Rattle.theory.proofs.Stages.{Passed, stage-passed}
 use Rattle.form.proofs.Accepted.{Accepted, in-form-by}
 use Rattle.fit.specs.Ready.{Ready}
 use Rattle.fit.proofs.Answers.{ready-form}
-use Rattle.edit.specs.Runs.{stepAnswer}
+use Rattle.edit.specs.Runs.{stepAnswer, Lent}
 
 -- what an accepted step of table T leaves
 pub record Accepts (c m : ℕ) (raw : List ℕ) (T : Table) (x : Step) (k : ℕ) : Type 0 where
@@ -49,9 +53,9 @@ pub record Accepts (c m : ℕ) (raw : List ℕ) (T : Table) (x : Step) (k : ℕ)
   pub rising : AscFrom key 0 T
   pub good : Good c T (layerOf c m raw)
   pub allowed : Allowed c x (read T (layerOf c m raw))
-  pub size : length (stepOn (keys T) x (layerOf c m raw)) ≡ k
+  pub size : length (stepOn T x (layerOf c m raw)) ≡ k
   pub room : k ≤ roomOf c (length raw)
-  pub rows : rowsAfter (length T) (stepOn (keys T) x (layerOf c m raw)) ≤ 4096
+  pub rows : rowsAfter (length T) (stepOn T x (layerOf c m raw)) ≤ 4096
 
 -- the tests of an accepted call have passed: the first four, and its own
 pub all-rows : (c m : ℕ) (raw K : List ℕ) (ok : Bool) → (ok ≡ true → argsOk c (length K) m (length raw) ≡ true)
@@ -106,8 +110,8 @@ module _ (c m : ℕ) (raw : List ℕ) (T : Table) where
         ∙ (ap (any (eqb (key r))) (sym (keys-read T L (key-kept T L (is-good .fit)))) ∙ h))
 
     -- the same of every step: it is allowed, and the result has its room and its rows
-    step-accepts : (x : Step) (k : ℕ) → Allowed c x (read T L) → length (stepOn K x L) ≡ k
-        → ltb (roomOf c (length raw)) (length (stepOn K x L)) ≡ false → rowsAfter (length T) (stepOn K x L) ≤ 4096
+    step-accepts : (x : Step) (k : ℕ) → Allowed c x (read T L) → length (stepOn T x L) ≡ k
+        → ltb (roomOf c (length raw)) (length (stepOn T x L)) ≡ false → rowsAfter (length T) (stepOn T x L) ≤ 4096
         → Accepts c m raw T x k
     step-accepts x k a s t n = record {
       ready = R;
@@ -116,7 +120,7 @@ module _ (c m : ℕ) (raw : List ℕ) (T : Table) where
       good = is-good;
       allowed = a;
       size = s;
-      room = omega (arith, ltb-false (roomOf c (length raw)) (length (stepOn K x L)) t);
+      room = omega (arith, ltb-false (roomOf c (length raw)) (length (stepOn T x L)) t);
       rows = n;
     }
 
@@ -125,17 +129,17 @@ module _ (c m : ℕ) (raw : List ℕ) (T : Table) where
   add-accepts row k h =
       let own = eqb (length row) c in
       let w = all-rows c m raw K (args && own) (and-l args own) (addRows c (length raw) K L row)
-      (length (stepOn K (adding row) L)) k h in
+      (length (stepOn T (adding row) L)) k h in
       let R = w .0 in
       let t = w .2 in
       step-accepts R (adding row) k (eqb-true (length row) c (and-r args own (w .1)), free R row (t .0)) (w .3) (t .1 .0)
-      (rw (sym (keys-length T)) (ltb-false 4096 (rowsAfter (length K) (stepOn K (adding row) L)) (t .1 .1 .0)))
+      (rw (sym (keys-length T)) (ltb-false 4096 (rowsAfter (length K) (stepOn T (adding row) L)) (t .1 .1 .0)))
 
   strike-accepts : (r k : ℕ) → strikeAnswer c m raw K r ≡ Done k → Accepts c m raw T (striking r) k
   unfolding strikeAnswer
   strike-accepts r k h =
       let w = all-rows c m raw K args (λ o. o) (strikeRows c (length raw) K L r)
-      (length (stepOn K (striking r) L)) k h in
+      (length (stepOn T (striking r) L)) k h in
       let R = w .0 in
       let t = w .2 in
       let below : r < length (read T L) =
@@ -152,7 +156,7 @@ module _ (c m : ℕ) (raw : List ℕ) (T : Table) where
   change-accepts r j v k h =
       let own = ltb j c in
       let w = all-rows c m raw K (args && own) (and-l args own) (changeRows c (length raw) K L r j (to v))
-      (length (stepOn K (changing r j (to v)) L)) k h in
+      (length (stepOn T (changing r j (to v)) L)) k h in
       let R = w .0 in
       let t = w .2 in
       let below : r < length (read T L) =
@@ -166,7 +170,37 @@ module _ (c m : ℕ) (raw : List ℕ) (T : Table) where
         form-is R .few,
       ))
 
-  pub accepts : (x : Step) (k : ℕ) → stepAnswer c m raw K x ≡ Done k → Accepts c m raw T x k
-  accepts (adding row) k h = add-accepts row k h
-  accepts (striking r) k h = strike-accepts r k h
-  accepts (changing r j (to v)) k h = change-accepts r j v k h
+  -- a number that is shown in no other row is no other row's
+  module _ (R : Ready c m raw K) where
+    free-beside : (r g : ℕ) → shownKey g (without r (keysAfter K L)) ≡ false → (q : Row) → Mem q (without r (read T L))
+        → key q ≡ g → ⊥
+    free-beside r g h q n e =
+        true≢false (sym (any-of (eqb g) (without r (keys (read T L))) (key q)
+        (rw (without-map key r (read T L)) (mem-map key (without r (read T L)) q n)) (eq-eqb g (key q) (sym e)))
+        ∙ (ap (λ (Z : List ℕ). any (eqb g) (without r Z)) (sym (keys-read T L (key-kept T L (is-good R .fit)))) ∙ h))
+
+  renumber-accepts : (r g k : ℕ) → Wide c T → renumberOver true c m raw T r g ≡ Done k
+      → Accepts c m raw T (renumbering r g) k
+  unfolding renumberOver
+  renumber-accepts r g k wide h =
+      let w = all-rows c m raw K (args && true) (and-l args true) (renumberRows c (length raw) T L r g)
+      (length (stepOn T (renumbering r g) L)) k h in
+      let R = w .0 in
+      let t = w .2 in
+      let below : r < length (read T L) =
+      omega (arith, leb-false (rowsAfter (length K) L) r (t .0), shown-count R) in
+      let some = form-is R .held .some in
+      let long = read-wide c T L wide (is-good R) (getD (read T L) r []) (at-mem (row-at R r below)) in
+      let free = free-beside R r g (t .1 .0) in
+      step-accepts R (renumbering r g) k (below, some, long, free) (w .3) (t .1 .1 .0)
+      (omega (
+        arith,
+        renumber-rows c T L (asc R) (is-good R) r g below some long free,
+        form-is R .few,
+      ))
+
+  pub accepts : (x : Step) (k : ℕ) → Lent c T x → stepAnswer c m raw T x ≡ Done k → Accepts c m raw T x k
+  accepts (adding row) k l h = add-accepts row k h
+  accepts (striking r) k l h = strike-accepts r k h
+  accepts (changing r j (to v)) k l h = change-accepts r j v k h
+  accepts (renumbering r g) k l h = renumber-accepts r g k l h

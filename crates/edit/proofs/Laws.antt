@@ -38,21 +38,21 @@ use Rattle.form.proofs.Accepted.{accepts-form}
 use Rattle.fit.proofs.Answers.{ready-fits}
 use Rattle.store.proofs.Laws.{in-room}
 use Rattle.write.proofs.Layers.{flat-length}
-use Rattle.edit.specs.Runs.{stepAnswer, Allows, stepSlice, Ran, still, first}
+use Rattle.edit.specs.Runs.{stepAnswer, Lent, Allows, stepSlice, Ran, still, first}
 use Rattle.edit.proofs.Accepting.{Accepts, accepts}
 
 -- an outcome is an accepted step, or leaves the slice as it was
-module _ (c m : ℕ) (raw K : List ℕ) (x : Step) (r : Answer) (new : List ℕ) (o : Allows c m raw K x r new) where
-  with-answer : (a : Answer) → r ≡ a → new ≡ edited c m a (stepOn K x (layerOf c m raw)) raw
-  with-answer a e = o .1 ∙ ap (λ (t : Answer). edited c m t (stepOn K x (layerOf c m raw)) raw) (sym (o .0) ∙ e)
+module _ (c m : ℕ) (raw : List ℕ) (T : Table) (x : Step) (r : Answer) (new : List ℕ) (o : Allows c m raw T x r new) where
+  with-answer : (a : Answer) → r ≡ a → new ≡ edited c m a (stepOn T x (layerOf c m raw)) raw
+  with-answer a e = o .1 ∙ ap (λ (t : Answer). edited c m t (stepOn T x (layerOf c m raw)) raw) (sym (o .0) ∙ e)
 
-  pub accepted-outcome : (k : ℕ) → r ≡ Done k → (stepAnswer c m raw K x ≡ Done k) × (new ≡ stepSlice c m raw K x k)
+  pub accepted-outcome : (k : ℕ) → r ≡ Done k → (stepAnswer c m raw T x ≡ Done k) × (new ≡ stepSlice c m raw T x k)
   accepted-outcome k e = (sym (o .0) ∙ e, with-answer (Done k) e)
 
   pub refused-outcome : (y : Refusal) → r ≡ Refused y → new ≡ raw
   refused-outcome y e = with-answer (Refused y) e
 
-module _ (c m : ℕ) (raw : List ℕ) (T : Table) (x : Step) (k : ℕ) (h : stepAnswer c m raw (keys T) x ≡ Done k) where
+module _ (c m : ℕ) (raw : List ℕ) (T : Table) (x : Step) (k : ℕ) (l : Lent c T x) (h : stepAnswer c m raw T x ≡ Done k) where
   abbrev K : List ℕ
   K = keys T
 
@@ -61,13 +61,13 @@ module _ (c m : ℕ) (raw : List ℕ) (T : Table) (x : Step) (k : ℕ) (h : step
 
   -- the layer that the scope's definition gives, and the slice after the call
   abbrev M : Layer
-  M = stepOn K x L
+  M = stepOn T x L
 
   abbrev after : List ℕ
-  after = stepSlice c m raw K x k
+  after = stepSlice c m raw T x k
 
   A : Accepts c m raw T x k
-  A = accepts c m raw T x k h
+  A = accepts c m raw T x k l h
 
   R : Reads c T M (stepBy x (read T L))
   R = step-reads c T (A .rising) x L (read T L) (record { good = A .good; reads = refl }) (A .allowed)
@@ -136,29 +136,29 @@ module _ (c m : ℕ) (raw : List ℕ) (T : Table) (x : Step) (k : ℕ) (h : step
   edit-reads = rw edit-layer (R .reads)
 
   pub edit-columns : Wide c T → (j : ℕ) → j < c → shownColumn c k after (column j T) j ≡ column j (stepBy x (read T L))
-  edit-columns w j l = sym (column-read c j T (layerOf c k after) w l) ∙ ap (column j) edit-reads
+  edit-columns w j g = sym (column-read c j T (layerOf c k after) w g) ∙ ap (column j) edit-reads
 
   edit-good : Reads c T (layerOf c k after) (stepBy x (read T L))
   edit-good = rw edit-layer R
 
 -- a run of accepted calls
 module _ (c : ℕ) (T : Table) where
-  run-on : (xs : List Step) (m : ℕ) (raw : List ℕ) (n : ℕ) (end : List ℕ) (Q : Table) → Ran c (keys T) xs m raw n end
+  run-on : (xs : List Step) (m : ℕ) (raw : List ℕ) (n : ℕ) (end : List ℕ) (Q : Table) → Ran c T xs m raw n end
       → Reads c T (layerOf c m raw) Q → Reads c T (layerOf c n end) (inTurn stepBy xs Q)
   run-on [] m raw n end Q still R = R
-  run-on (x ∷ xs) m raw n end Q (first {k = k} e r) R =
-      run-on xs k (stepSlice c m raw (keys T) x k) n end (stepBy x Q) r (rw (← R .reads) (edit-good c m raw T x k e))
+  run-on (x ∷ xs) m raw n end Q (first {k = k} l e r) R =
+      run-on xs k (stepSlice c m raw T x k) n end (stepBy x Q) r (rw (← R .reads) (edit-good c m raw T x k l e))
 
   begin : (raw : List ℕ) → Reads c T (layerOf c 0 raw) T
   unfolding layerOf entriesAt
   begin raw = record { good = empty-good c T; reads = empty-reads T }
 
   -- from an empty layer it reads as those edits done one after the other by key, in every column
-  pub run-reads : (xs : List Step) (raw : List ℕ) (n : ℕ) (end : List ℕ) → Ran c (keys T) xs 0 raw n end
+  pub run-reads : (xs : List Step) (raw : List ℕ) (n : ℕ) (end : List ℕ) → Ran c T xs 0 raw n end
       → read T (layerOf c n end) ≡ inTurn stepBy xs T
   run-reads xs raw n end r = run-on xs 0 raw n end T r (begin raw) .reads
 
-  pub run-columns : (xs : List Step) (raw : List ℕ) (n : ℕ) (end : List ℕ) → Ran c (keys T) xs 0 raw n end
+  pub run-columns : (xs : List Step) (raw : List ℕ) (n : ℕ) (end : List ℕ) → Ran c T xs 0 raw n end
       → Wide c T → (j : ℕ) → j < c → shownColumn c n end (column j T) j ≡ column j (inTurn stepBy xs T)
   run-columns xs raw n end r w j l = sym (column-read c j T (layerOf c n end) w l)
       ∙ ap (column j) (run-reads xs raw n end r)

@@ -1,6 +1,10 @@
 pub mod Accepting
 pub mod Examples
+pub mod InStores
+pub mod Laid
 pub mod Laws
+pub mod Renumbering
 pub mod Splices
 pub mod Stores
 pub mod Unique
+pub mod Whole

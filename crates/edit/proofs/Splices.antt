@@ -1,56 +1,41 @@
--- An accepted edit is one move. Of the layer's edits one run goes, and at most one edit comes in its place; in the slice it
--- is one splice, or one value set.
+-- An accepted edit is one move. Of the layer's edits one run goes, and at most one edit comes in its place; of a renumbering
+-- two runs. In the slice it is one splice, two, or one value set.
 -- Assumes nothing.
-use Prim.Native.Nat.{ℕ, suc, _+_, _*_, _-_, _≤_, _<_}
+use Prim.Native.Nat.{ℕ, _+_, _-_, _≤_, _<_}
 use native.Mathlib.Omega.{arith}
-use mathlib.Core.Path.{_≡_, refl, sym, ap, subst, _∙_}
-use mathlib.Core.Bool.{Bool, true, false, not, cond, _||_, true≢false}
-use mathlib.Core.List.{List, [], _∷_, _++_}
-use lib.ListN.{length, getD, drop, replicate}
+use mathlib.Core.Path.{_≡_, refl, sym, ap, _∙_}
+use mathlib.Core.Bool.{Bool, true, false, not, _||_, true≢false}
+use mathlib.Core.List.{List, [], _∷_}
+use lib.ListN.{length, drop}
 use Rattle.order.specs.Lists.{one, any, count, filter}
-use Rattle.order.proofs.Counts.{length-insert}
-use Rattle.order.proofs.Ascending.{at-length}
+use Rattle.order.proofs.Counts.{length-insert, filter-count}
 use Rattle.words.specs.declared.Answer.the-variants.{Done}
-use Rattle.model.specs.Row.{Table, key, keys}
+use Rattle.model.specs.Row.{Table, keys}
 use Rattle.model.specs.Cell.{CellEdit, to}
 use Rattle.model.specs.Layer.{at, change, Layer, rowsAfter, changesCell}
 use Rattle.model.specs.Raw.{Held, layerOf}
-use Rattle.words.specs.Entry.{ADD, STRIKE, addEntry, strikeEntry, changeEntry}
-use Rattle.model.specs.Fit.{keysBelow}
+use Rattle.words.specs.Entry.{changeEntry}
 use Rattle.model.specs.Read.{read}
 use Rattle.model.specs.Position.{Origin, base, added, back}
-use Rattle.model.specs.Edits.{before, composed, changeBase, strikeRow, changeRowNo}
-use Rattle.model.specs.Steps.{Step, adding, striking, changing, stepOn}
+use Rattle.model.specs.Edits.{before, composed, changeBase, changeRowNo}
+use Rattle.model.specs.Steps.{Step, adding, striking, changing, renumbering, stepOn}
 use Rattle.model.specs.Calls.{originAnswer}
 use Rattle.theory.proofs.Fit.{keys-length}
 use Rattle.theory.proofs.Count.{read-length}
-use Rattle.theory.proofs.Column.{singles, keys-singles}
-use Rattle.theory.proofs.Origin.{Stands}
-use Rattle.store.specs.Numbers.{entryNumbers}
-use Rattle.splice.specs.Splice.{fresh}
-use Rattle.enter.specs.Move.{Move, entries, number, countAfter}
-use Rattle.write.specs.Plans.{Plans, splices, sets, OneSplice}
-use Rattle.store.proofs.Laws.{coming-length, in-room}
+use Rattle.enter.specs.Move.{Move, number, countAfter}
+use Rattle.write.specs.Plans.{Plans, splices, sets, OneRun, OneSplice}
+use Rattle.store.proofs.Laws.{in-room}
 use Rattle.write.proofs.Layers.{plan-splice, plan-count, plan-done, plan-within}
 use Rattle.landing.specs.Landing.{aim, landing, changesFirst}
 use Rattle.landing.proofs.Known.{Known, known}
-use Rattle.plan.specs.Moves.{outOf, oneOf}
-use Rattle.plan.proofs.Planned.{written, add-plans, strike-plans, change-plans, out-plans, stands, change-of-base, change-of-added}
-use Rattle.edit.specs.Runs.{stepAnswer, stepSlice, Allows}
-use Rattle.edit.specs.OneMove.{strikeMove, changeMove, moveFor, OneMove, holdsCell, OneNumber}
+use Rattle.plan.specs.Moves.{oneOf, changeMove}
+use Rattle.plan.proofs.Planned.{written, add-splices, strike-splices, change-plans, change-of-base, change-of-added}
+use Rattle.plan.proofs.Renumbered.{renumber-plans}
+use Rattle.edit.specs.Runs.{stepAnswer, Lent, stepSlice, Allows}
+use Rattle.edit.specs.OneMove.{moveFor, OneMove, holdsCell, OneNumber}
 use Rattle.edit.proofs.Accepting.{Accepts, accepts}
+use Rattle.edit.proofs.Whole.{Whole, plan-whole}
 use Rattle.edit.proofs.Laws.{accepted-outcome}
-
--- what a filter leaves, and what it takes
-kept : {A : Type 0} (f : A → Bool) (xs : List A) → length (filter (λ x. not (f x)) xs) + count f xs ≡ length xs
-kept f [] = omega arith
-kept f (x ∷ xs) = go (kept f xs) (f x)
-  where
-    go : length (filter (λ x. not (f x)) xs) + count f xs ≡ length xs → (t : Bool)
-        → length (cond (not t) (x ∷ filter (λ x. not (f x)) xs) (filter (λ x. not (f x)) xs)) + (one t + count f xs)
-        ≡ suc (length xs)
-    go ih true = omega arith
-    go ih false = omega arith
 
 any-one : {A : Type 0} (f : A → Bool) (xs : List A) → any f xs ≡ true → 1 ≤ count f xs
 any-one f [] h = absurd (true≢false (sym h))
@@ -68,24 +53,14 @@ no-more s j e L h =
     omega (
       arith,
       length-insert before (at s (change j (composed s j e L))) (filter (λ d. not (changesCell s j d)) L),
-      kept (changesCell s j) L,
+      filter-count (changesCell s j) L,
       any-one (changesCell s j) L h,
     )
 
--- the entry that comes, if one does, has all its c + 2 numbers
-abbrev pub Whole : ℕ → Move → Type 0
-Whole c (entries p) = length (fresh c p) ≡ p .comes * (c + 2)
-Whole c (number x) = Unit {0}
-
-plan-whole : {c : ℕ} {L M : Layer} {p : Move} → Plans c L M p → Whole c p
-plan-whole {c} (splices {p} P) =
-    coming-length (c + 2) (p .comes) (entryNumbers c (p .entry)) (P .few) (ap length (P .numbers) ∙ P .wide)
-plan-whole (sets P) = tt
-
 -- an accepted edit is the move that it is said to be, of a layer that its slice holds; what comes is whole
-abbrev pub Moves : ℕ → ℕ → List ℕ → List ℕ → Step → ℕ → Type 0
-Moves c m raw K x k =
-    (let p = moveFor K (layerOf c m raw) x in OneMove c m raw p k (stepSlice c m raw K x k) × Held c m raw × Whole c p)
+abbrev pub Moves : ℕ → ℕ → List ℕ → Table → Step → ℕ → Type 0
+Moves c m raw T x k =
+    (let p = moveFor T (layerOf c m raw) x in OneMove c m raw p k (stepSlice c m raw T x k) × Held c m raw × Whole c p)
 
 module _ (c m : ℕ) (raw : List ℕ) (T : Table) where
   abbrev K : List ℕ
@@ -101,14 +76,6 @@ module _ (c m : ℕ) (raw : List ℕ) (T : Table) where
     -- a row that is read is one of those shown
     shown : (r : ℕ) → r < length (read T L) → r < rowsAfter (length K) L
     shown r h = omega (arith, read-length T L (A .good .fit), ap (λ (n : ℕ). rowsAfter n L) (keys-length T))
-
-    struck-move : (r : ℕ) (o : Origin) → back (length K) L r ≡ o → Stands (length K) L o
-        → Plans c L (strikeRow K r L) (strikeMove K L o)
-    unfolding strikeRow
-    struck-move r (base s) e w =
-        rw e (splices (strike-plans N s (landing (aim s STRIKE 0) L) (landing (aim (s + 1) ADD 0) L) (w .1) refl refl
-        (strikeEntry s (getD K s 0)) refl))
-    struck-move r (added i) e w = rw e (splices (out-plans N i (omega (arith, at-length (w .2)))))
 
     -- a change of column j of row number r
     module _ (r j v : ℕ) (h : r < rowsAfter (length K) L) (l : 1 ≤ j) (g : j < c) where
@@ -153,19 +120,17 @@ module _ (c m : ℕ) (raw : List ℕ) (T : Table) where
                 N .acc .size,
               ))
 
-  moved : (x : Step) (k : ℕ) → Accepts c m raw T x k → Plans c L (stepOn K x L) (moveFor K L x)
-  moved (adding row) k A =
-      let p = keysBelow (key row) K in
-      splices (add-plans (N A) row (A .allowed .0) p (landing (aim p ADD (key row)) L) refl refl
-      (addEntry p (row ++ replicate (8 - length row) 0)) refl)
-  moved (striking r) k A =
-      struck-move A r (back (length K) L r) refl (stands (N A) r (shown A r (A .allowed)))
+  moved : (x : Step) (k : ℕ) → Accepts c m raw T x k → Plans c L (stepOn T x L) (moveFor T L x)
+  moved (adding row) k A = splices (add-splices (N A) row (A .allowed .0))
+  moved (striking r) k A = splices (strike-splices (N A) r (shown A r (A .allowed)))
   moved (changing r j (to v)) k A =
       changed-move A r j v (shown A r (A .allowed .0)) (A .allowed .1) (A .allowed .2) (back (length K) L r) refl
+  moved (renumbering r g) k A =
+      renumber-plans T (N A) r g (shown A r (A .allowed .0)) (A .allowed .1) (A .allowed .2)
 
   -- what an accepted edit leaves is what its move enters
-  one-of : {x : Step} {k : ℕ} (A : Accepts c m raw T x k) {p : Move} → Plans c L (stepOn K x L) p
-      → OneMove c m raw p k (stepSlice c m raw K x k)
+  one-of : {x : Step} {k : ℕ} (A : Accepts c m raw T x k) {p : Move} → Plans c L (stepOn T x L) p
+      → OneMove c m raw p k (stepSlice c m raw T x k)
   one-of {k = k} A {p} P =
       let W = written (N A) in
       let n : k ≡ countAfter m p = sym (plan-count c m raw L W P ∙ A .size) in
@@ -176,20 +141,32 @@ module _ (c m : ℕ) (raw : List ℕ) (T : Table) where
         slice = sym (plan-done c m raw L W P k);
       }
 
-  pub edit-splice : (x : Step) (k : ℕ) → stepAnswer c m raw K x ≡ Done k → OneSplice L (stepOn K x L)
-  edit-splice x k h = plan-splice (moved x k (accepts c m raw T x k h))
+  module _ (x : Step) (k : ℕ) (l : Lent c T x) (h : stepAnswer c m raw T x ≡ Done k) where
+    pub edit-splice : OneRun (moveFor T L x) → OneSplice L (stepOn T x L)
+    edit-splice o = plan-splice (moved x k (accepts c m raw T x k l h)) o
 
-  move-of : (x : Step) (k : ℕ) → stepAnswer c m raw K x ≡ Done k → Moves c m raw K x k
-  move-of x k h =
-      let A = accepts c m raw T x k h in
-      let P = moved x k A in
-      (one-of A P, N A .acc .held, plan-whole P)
+    pub whole-move : Moves c m raw T x k
+    whole-move =
+        let A = accepts c m raw T x k l h in
+        let P = moved x k A in
+        (one-of A P, N A .acc .held, plan-whole P)
 
-  value-of : (r j v k : ℕ) → stepAnswer c m raw K (changing r j (to v)) ≡ Done k
+    pub one-move : OneMove c m raw (moveFor T L x) k (stepSlice c m raw T x k)
+    one-move = whole-move .0
+
+  -- the same of what its contract allows
+  pub allowed-move : (x : Step) (k : ℕ) (new : List ℕ) → Lent c T x → Allows c m raw T x (Done k) new
+      → OneMove c m raw (moveFor T L x) k new
+  allowed-move x k new l o =
+      let w = accepted-outcome c m raw T x (Done k) new o k refl in
+      rw (w .1) (one-move x k l (w .0))
+
+  -- a change of a cell of which the layer holds a value sets one number alone
+  pub value-alone : (r j v k : ℕ) → stepAnswer c m raw T (changing r j (to v)) ≡ Done k
       → holdsCell j L (back (length K) L r) ≡ true
-      → OneNumber c m raw v k (stepSlice c m raw K (changing r j (to v)) k)
-  value-of r j v k h q =
-      let A = accepts c m raw T (changing r j (to v)) k h in
+      → OneNumber c m raw v k (stepSlice c m raw T (changing r j (to v)) k)
+  value-alone r j v k h q =
+      let A = accepts c m raw T (changing r j (to v)) k tt h in
       let w = value-plans A r j v (shown A r (A .allowed .0)) (A .allowed .1) (A .allowed .2) (back (length K) L r) refl q in
       let o = one-of A (w .2) in
       record {
@@ -200,30 +177,3 @@ module _ (c m : ℕ) (raw : List ℕ) (T : Table) where
         count = o .count;
         slice = o .slice;
       }
-
--- every list is the key column of some rows
-pub whole-move : (c m : ℕ) (raw K : List ℕ) (x : Step) (k : ℕ) → stepAnswer c m raw K x ≡ Done k → Moves c m raw K x k
-whole-move c m raw K x k =
-    subst (λ (Z : List ℕ). stepAnswer c m raw Z x ≡ Done k → Moves c m raw Z x k) (keys-singles K)
-    (move-of c m raw (singles K) x k)
-
-pub one-move : (c m : ℕ) (raw K : List ℕ) (x : Step) (k : ℕ) → stepAnswer c m raw K x ≡ Done k
-    → OneMove c m raw (moveFor K (layerOf c m raw) x) k (stepSlice c m raw K x k)
-one-move c m raw K x k h = whole-move c m raw K x k h .0
-
--- the same of what its contract allows
-pub allowed-move : (c m : ℕ) (raw K : List ℕ) (x : Step) (k : ℕ) (new : List ℕ) → Allows c m raw K x (Done k) new
-    → OneMove c m raw (moveFor K (layerOf c m raw) x) k new
-allowed-move c m raw K x k new o =
-    let w = accepted-outcome c m raw K x (Done k) new o k refl in
-    rw (w .1) (one-move c m raw K x k (w .0))
-
--- a change of a cell of which the layer holds a value sets one number alone
-pub value-alone : (c m : ℕ) (raw K : List ℕ) (r j v k : ℕ) → stepAnswer c m raw K (changing r j (to v)) ≡ Done k
-    → holdsCell j (layerOf c m raw) (back (length K) (layerOf c m raw) r) ≡ true
-    → OneNumber c m raw v k (stepSlice c m raw K (changing r j (to v)) k)
-value-alone c m raw K r j v k =
-    subst (λ (Z : List ℕ). stepAnswer c m raw Z (changing r j (to v)) ≡ Done k
-    → holdsCell j (layerOf c m raw) (back (length Z) (layerOf c m raw) r) ≡ true
-    → OneNumber c m raw v k (stepSlice c m raw Z (changing r j (to v)) k)) (keys-singles K)
-    (value-of c m raw (singles K) r j v k)

@@ -1,49 +1,24 @@
 -- Which move of a layer's slice an edit is; what an accepted one leaves; and when that is one value alone.
 use mathlib.Core.Path.{_≡_}
 use mathlib.Core.Bool.{Bool, true}
-use mathlib.Core.List.{List, _++_}
-use Prim.Native.Nat.{ℕ, _+_, _-_, _*_, _≤_, _<_}
-use lib.ListN.{length, getD, drop, set, replicate}
+use mathlib.Core.List.{List}
+use Prim.Native.Nat.{ℕ, _+_, _*_, _≤_, _<_}
+use lib.ListN.{length, set}
 use Rattle.order.specs.Lists.{any}
-use Rattle.words.specs.Entry.{ADD, STRIKE, addEntry, strikeEntry, changeEntry}
-use Rattle.model.specs.Row.{key}
+use Rattle.model.specs.Row.{Table, keys}
 use Rattle.model.specs.Cell.{to}
 use Rattle.model.specs.Layer.{Layer, changesCell}
-use Rattle.model.specs.Fit.{keysBelow}
 use Rattle.model.specs.Position.{Origin, base, added, back}
-use Rattle.model.specs.Steps.{Step, adding, striking, changing}
-use Rattle.enter.specs.Move.{numberAt, Move, entries, number, Within, entered, countAfter}
-use Rattle.landing.specs.Landing.{aim, landing, changesFirst}
-use Rattle.plan.specs.Moves.{outOf, oneOf}
+use Rattle.model.specs.Steps.{Step, adding, striking, changing, renumbering}
+use Rattle.enter.specs.Move.{numberAt, Move, entries, Within, entered, countAfter}
+use Rattle.plan.specs.Moves.{addSplice, strikeSplice, changeMove, renumberMove}
 
--- a strike comes where it lands, in place of the row's changes; an added row's entry goes
-abbrev pub strikeMove : List ℕ → Layer → Origin → Move
-strikeMove K L (base s) =
-    (let i = landing (aim s STRIKE 0) L in
-    entries (record { i = i; gone = landing (aim (s + 1) ADD 0) L - i; comes = 1; entry = strikeEntry s (getD K s 0) }))
-strikeMove K L (added i) = entries (outOf i)
-
--- a change of column j to v: a base row's change of j that stands where it would land gets the value, else it comes there; an
--- added row gets the value
-abbrev pub changeMove : Layer → ℕ → ℕ → Origin → Move
-changeMove L j v (base s) =
-    (let i = landing (aim s j 0) L in
-    oneOf (changesFirst s j (drop i L)) (record { i = i; j = 0; v = v })
-    (record { i = i; gone = 0; comes = 1; entry = changeEntry s j v }))
-changeMove L j v (added i) = number (record { i = i; j = j; v = v })
-
--- the move that an edit of a layer over these keys is; an add comes where it lands
-abbrev pub moveFor : List ℕ → Layer → Step → Move
-moveFor K L (adding row) =
-    (let p = keysBelow (key row) K in
-    entries (record {
-      i = landing (aim p ADD (key row)) L;
-      gone = 0;
-      comes = 1;
-      entry = addEntry p (row ++ replicate (8 - length row) 0);
-    }))
-moveFor K L (striking r) = strikeMove K L (back (length K) L r)
-moveFor K L (changing r j (to v)) = changeMove L j v (back (length K) L r)
+-- the move that an edit of a layer over this table is
+abbrev pub moveFor : Table → Layer → Step → Move
+moveFor T L (adding row) = entries (addSplice (keys T) L row)
+moveFor T L (striking r) = entries (strikeSplice (keys T) L (back (length (keys T)) L r))
+moveFor T L (changing r j (to v)) = changeMove L j v (back (length (keys T)) L r)
+moveFor T L (renumbering r g) = renumberMove T L r g
 
 -- a move within the layer's m entries and its slice's room, after which there are k, and the slice is `new`
 pub record OneMove (c m : ℕ) (raw : List ℕ) (p : Move) (k : ℕ) (new : List ℕ) : Type 0 where

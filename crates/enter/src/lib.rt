@@ -1,4 +1,4 @@
-// An edit entered into a layer's slice: one splice, or one value set.
+// An edit entered into a layer's slice: one splice, two, or one value set.
 use splice::Splice;
 use words::Answer;
 use words::Entry;
@@ -6,7 +6,7 @@ ghost use mathlib.Core.Path.{_≡_};
 ghost use lib.ListN.{length};
 ghost use Rattle.model.specs.Raw.{Held};
 ghost use Rattle.splice.specs.Splice.{roomAnswer, ifDone};
-ghost use Rattle.enter.specs.Move.{noneAt, entries, number, Within, entered, countAfter};
+ghost use Rattle.enter.specs.Move.{noneAt, entries, number, inKeyOrder, Within, entered, countAfter};
 
 // No splice, behind m entries.
 fn none(m: usize) -> Splice
@@ -28,6 +28,25 @@ pub fn enter(c: usize, m: usize, p: Splice, layer: &mut [u64]) -> Answer
         × (now (layer .exit) ≡ ifDone r (entered c m (entries p) L) L)) ⌝ }
 {
     splice::enter_two(c, m, p, none(m), layer)
+}
+
+// Enters the splice by which a row goes and the one by which it comes, which stands in front if the row's new number is the lower.
+pub fn enter_in_turn(
+    c: usize,
+    m: usize,
+    lower: bool,
+    out: Splice,
+    into: Splice,
+    layer: &mut [u64],
+) -> Answer
+    requires { ⌜ Held c m (now layer) × Within c m (inKeyOrder lower out into) ⌝ }
+    ensures { λ r. ⌜ (let L = now (layer .entry) in let p = inKeyOrder lower out into in
+        (r ≡ roomAnswer c (length L) (countAfter m p)) × (now (layer .exit) ≡ ifDone r (entered c m p L) L)) ⌝ }
+{
+    if lower {
+        return splice::enter_two(c, m, into, out, layer);
+    }
+    splice::enter_two(c, m, out, into, layer)
 }
 
 // Value j of entry number i, which is to become v.

@@ -8,3 +8,4 @@ pub mod Numbers
 pub mod Rightful
 pub mod Viewed
 pub mod Slices
+pub mod Renumbers

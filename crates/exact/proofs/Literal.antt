@@ -9,7 +9,7 @@ use lib.IntN.{pos, negsuc}
 use Rattle.words.specs.declared.Answer.the-variants.{Done, Refused}
 use Rattle.words.specs.declared.Shifted.the-variants as shifted
 use Rattle.words.specs.declared.Back.the-variants as backed
-use Rattle.model.specs.Row.{key}
+use Rattle.model.specs.Row.{key, columnwise}
 use Rattle.model.specs.Cell.{put, to}
 use Rattle.model.specs.Layer.{add, strike, change, at, Layer}
 use Rattle.model.specs.Raw.{entriesAt, layerOf, flat, room}
@@ -17,7 +17,7 @@ use Rattle.model.specs.Form.{formPlace, argsOk}
 use Rattle.model.specs.Fit.{fitPlace}
 use Rattle.model.specs.Read.{wholeBase, bufferFront, emptyBase}
 use Rattle.model.specs.Position.{shift, rowOf, origins}
-use Rattle.model.specs.Edits.{addRow, strikeBase, changeBase, strikeRow, changeRowNo}
+use Rattle.model.specs.Edits.{addRow, strikeBase, changeBase, strikeRow, changeRowNo, renumberRow}
 use Rattle.model.specs.Redo.{combine}
 use Rattle.model.specs.Conflict.{ruleNumber, clash, conflict, conflictPlace}
 use Rattle.model.specs.Move.{addPosition}
@@ -39,6 +39,9 @@ use Rattle.model.specs.Calls.{
   strikeSlice,
   changeAnswer,
   changeSlice,
+  renumberOver,
+  renumberAnswer,
+  renumberSlice,
   combineAnswer,
   combineSlice,
   moveAnswer,
@@ -138,6 +141,57 @@ pub change-call : (changeAnswer 2 1 slice2 K4 2 1 9 ≡ Done 1)
     × (changeAnswer 2 1 slice2 K4 5 2 9 ≡ Refused (refusal 1 0))
 unfolding changeAnswer argsOk breaksForm formPlace layerOf entriesAt fitPlace key put changeRowNo changeBase origins room flat
 change-call = (refl, refl, refl, refl, refl, refl, refl)
+
+-- The base as one slice, column 0 and then column 1. A base row with another number: a strike, and an add at the number's
+-- place; the change of a changed row goes, and its value with the row.
+abbrev table4 : List ℕ
+table4 = K4 ++ ones
+
+pub renumber-base-call : (renumberAnswer 2 4 0 slice0 table4 0 25 ≡ Done 2)
+    × (renumberSlice 2 4 0 slice0 table4 0 25 ≡ 0 ∷ 65534 ∷ 10 ∷ 0 ∷ 2 ∷ 65535 ∷ 25 ∷ 1 ∷ (replicate 8 0 ++ tail))
+    × (renumberAnswer 2 4 1 (3 ∷ 1 ∷ 9 ∷ 0 ∷ slice0) table4 3 15 ≡ Done 2)
+    × (renumberSlice 2 4 1 (3 ∷ 1 ∷ 9 ∷ 0 ∷ slice0) table4 3 15
+    ≡ 1 ∷ 65535 ∷ 15 ∷ 9 ∷ 3 ∷ 65534 ∷ 40 ∷ 0 ∷ (replicate 12 0 ++ tail))
+unfolding renumberOver renumberRow columnwise argsOk breaksForm formPlace layerOf entriesAt fitPlace key put addRow strikeRow
+    strikeBase origins room flat
+renumber-base-call = (refl, refl, refl, refl)
+
+-- three changes of one row give way to a strike and an add: an entry is freed, and leaves zeros
+pub renumber-freed-call : (renumberAnswer 4 1 3 (0 ∷ 1 ∷ 5 ∷ 0 ∷ 0 ∷ 0 ∷ 0 ∷ 2 ∷ 6 ∷ 0 ∷ 0 ∷ 0 ∷ 0 ∷ 3 ∷ 7 ∷ 0 ∷ 0 ∷ 0 ∷ tail)
+    (10 ∷ 1 ∷ 2 ∷ 3 ∷ []) 0 5 ≡ Done 2)
+    × (renumberSlice 4 1 3 (0 ∷ 1 ∷ 5 ∷ 0 ∷ 0 ∷ 0 ∷ 0 ∷ 2 ∷ 6 ∷ 0 ∷ 0 ∷ 0 ∷ 0 ∷ 3 ∷ 7 ∷ 0 ∷ 0 ∷ 0 ∷ tail)
+    (10 ∷ 1 ∷ 2 ∷ 3 ∷ []) 0 5 ≡ 0 ∷ 65535 ∷ 5 ∷ 5 ∷ 6 ∷ 7 ∷ 0 ∷ 65534 ∷ 10 ∷ 0 ∷ 0 ∷ 0 ∷ (replicate 6 0 ++ tail))
+unfolding renumberOver renumberRow columnwise argsOk breaksForm formPlace layerOf entriesAt fitPlace key put addRow strikeRow
+    strikeBase origins room flat
+renumber-freed-call = (refl, refl)
+
+-- E4 fills its slice: an added row may have another number, also that of a struck row; and a row its own
+pub renumber-full-call : (renumberAnswer 2 4 4 (slice4 ++ tail) table4 2 35 ≡ Done 4)
+    × (renumberSlice 2 4 4 (slice4 ++ tail) table4 2 35
+    ≡ 2 ∷ 65535 ∷ 27 ∷ 9 ∷ 2 ∷ 65534 ∷ 30 ∷ 0 ∷ 3 ∷ 65535 ∷ 33 ∷ 5 ∷ 3 ∷ 65535 ∷ 35 ∷ 7 ∷ tail)
+    × (renumberSlice 2 4 4 (slice4 ++ tail) table4 2 30
+    ≡ 2 ∷ 65535 ∷ 27 ∷ 9 ∷ 2 ∷ 65535 ∷ 30 ∷ 7 ∷ 2 ∷ 65534 ∷ 30 ∷ 0 ∷ 3 ∷ 65535 ∷ 33 ∷ 5 ∷ tail)
+    × (renumberAnswer 2 4 4 (slice4 ++ tail) table4 2 25 ≡ Done 4)
+    × (renumberSlice 2 4 4 (slice4 ++ tail) table4 2 25 ≡ slice4 ++ tail)
+    × (renumberAnswer 2 4 4 (slice4 ++ tail) table4 5 40 ≡ Done 4)
+    × (renumberSlice 2 4 4 (slice4 ++ tail) table4 5 40 ≡ slice4 ++ tail)
+unfolding renumberOver renumberRow columnwise argsOk breaksForm formPlace layerOf entriesAt fitPlace key addRow strikeRow
+    strikeBase origins room flat
+renumber-full-call = (refl, refl, refl, refl, refl, refl, refl)
+
+-- a base row has no room there for two more entries, 9; a number that another row shows gives 7, a row that is not shown 5;
+-- a table one number short gives 1, one number over nothing
+pub renumber-refused-call : (renumberAnswer 2 4 4 (slice4 ++ tail) table4 5 45 ≡ Refused (refusal 9 0))
+    × (renumberSlice 2 4 4 (slice4 ++ tail) table4 5 45 ≡ slice4 ++ tail)
+    × (renumberAnswer 2 4 1 (3 ∷ 1 ∷ 9 ∷ 0 ∷ tail) table4 3 45 ≡ Refused (refusal 9 0))
+    × (renumberAnswer 2 4 4 (slice4 ++ tail) table4 5 27 ≡ Refused (refusal 7 0))
+    × (renumberAnswer 2 4 4 (slice4 ++ tail) table4 6 27 ≡ Refused (refusal 5 0))
+    × (renumberAnswer 2 4 0 slice0 (10 ∷ 20 ∷ 30 ∷ 40 ∷ 1 ∷ 2 ∷ 4 ∷ []) 0 25 ≡ Refused (refusal 1 0))
+    × (renumberSlice 2 4 0 slice0 (10 ∷ 20 ∷ 30 ∷ 40 ∷ 1 ∷ 2 ∷ 4 ∷ []) 0 25 ≡ slice0)
+    × (renumberAnswer 2 4 0 slice0 (table4 ++ tail) 0 25 ≡ Done 2)
+unfolding renumberOver renumberRow columnwise argsOk breaksForm formPlace layerOf entriesAt fitPlace key put addRow strikeRow
+    strikeBase origins room flat
+renumber-refused-call = (refl, refl, refl, refl, refl, refl, refl, refl)
 
 -- E5: shifts of E4 at 0, 2, 3, 4: 0, 2, 2, 2; past n it gives 1
 pub e5-call : (shiftAnswer 2 4 4 slice4 0 ≡ shifted.By (pos 0)) × (shiftAnswer 2 4 4 slice4 2 ≡ shifted.By (pos 2))

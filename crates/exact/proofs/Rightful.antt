@@ -82,7 +82,7 @@ pub record Sound (c m : ℕ) (raw K : List ℕ) : Type 0 where
 
 -- An edit that is done had such a layer; combining and moving had two.
 module _ (c m : ℕ) (raw K : List ℕ) (k : ℕ) where
-  sound-of : ArgsPass c (length K) m (length raw) → FormKept c (length K) m raw → Ascends K
+  pub sound-of : ArgsPass c (length K) m (length raw) → FormKept c (length K) m raw → Ascends K
       → Fitting K (layerOf c m raw) (length (layerOf c m raw)) → Sound c m raw K
   sound-of a f s t = record { args = a; form = f; ascends = s; fit = t }
 
@@ -186,7 +186,7 @@ without-le i [] = omega arith
 without-le zero (e ∷ M) = omega arith
 without-le (suc i) (e ∷ M) = omega (arith, without-le i M)
 
-without-one : (i : ℕ) (M : Layer) → i < length M → length (without i M) ≡ length M - 1
+pub without-one : (i : ℕ) (M : Layer) → i < length M → length (without i M) ≡ length M - 1
 without-one i [] h = absurd (omega arith)
 without-one zero (e ∷ M) h = omega arith
 without-one (suc i) (e ∷ M) h = omega (arith, without-one i M (omega arith))
@@ -196,7 +196,7 @@ change-added-length i j e [] = refl
 change-added-length zero j e (d ∷ M) = refl
 change-added-length (suc i) j e (d ∷ M) = ap suc (change-added-length i j e M)
 
-struck-le : (K : List ℕ) (M : Layer) (o : Origin) → length (strikeOrigin K M o) ≤ suc (length M)
+pub struck-le : (K : List ℕ) (M : Layer) (o : Origin) → length (strikeOrigin K M o) ≤ suc (length M)
 unfolding strikeBase
 struck-le K M (base s) = entered-le (at s (strike (getD K s 0))) (λ e. not (changesRow s e)) M
 struck-le K M (added i) = omega (arith, without-le i M)

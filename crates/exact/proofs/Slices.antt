@@ -27,14 +27,15 @@ use Rattle.order.specs.Lists.{gather}
 use Rattle.order.proofs.Members.{mem-map, map-mem}
 use Rattle.words.specs.declared.Refusal.{Refusal}
 use Rattle.words.specs.declared.Answer.the-variants.{Done, Refused}
-use Rattle.model.specs.Row.{Row, Table, key, keys}
+use Rattle.model.specs.Row.{Row, Table, key, keys, columnwise}
 use Rattle.model.specs.Cell.{to}
 use Rattle.model.specs.Layer.{add, strike, change, Edit, at, Layer, rowsAfter}
 use Rattle.model.specs.Raw.{numbersOf, layerOf, flat}
 use Rattle.model.specs.Form.{sound, inOrder}
 use Rattle.model.specs.Read.{read, keysAfter}
 use Rattle.model.specs.Move.{moved, move}
-use Rattle.model.specs.Steps.{Step, adding, striking, changing, stepOn, Allowed}
+use Rattle.model.specs.Edits.{renumberRow}
+use Rattle.model.specs.Steps.{Step, adding, striking, changing, renumbering, stepOn, Allowed}
 use Rattle.model.specs.Calls.{
   edited,
   shownColumn,
@@ -49,6 +50,10 @@ use Rattle.model.specs.Calls.{
   changedLayer,
   changeAnswer,
   changeSlice,
+  renumberOver,
+  renumberedLayer,
+  renumberAnswer,
+  renumberSlice,
   combinedLayer,
   combineAnswer,
   combineSlice,
@@ -60,14 +65,23 @@ use Rattle.theory.proofs.Raw.{layer-length}
 use Rattle.theory.proofs.Readback.{sound-wide, read-back}
 use Rattle.theory.proofs.Fit.{fits-all, key-kept, keys-length}
 use Rattle.theory.proofs.Count.{read-length}
-use Rattle.theory.proofs.Column.{keys-read, singles, keys-singles}
+use Rattle.theory.proofs.Column.{Wide, keys-read, singles, keys-singles}
+use Rattle.theory.proofs.Columnwise.{columnwise-wide}
 use Rattle.theory.proofs.Edited.{add-length}
 use Rattle.theory.proofs.Steps.{step-reads}
 use Rattle.theory.proofs.Combine.{combine-good, upper-good}
 use Rattle.exact.proofs.FormExactly.{kept-each, kept-in-order}
 use Rattle.exact.proofs.FitExactly.{fit-exactly}
 use Rattle.exact.proofs.Exactly.{Roomy, counts}
-use Rattle.exact.proofs.Tables.{read-table, add-table, strike-table, change-table, combine-table, move-table}
+use Rattle.exact.proofs.Tables.{
+  read-table,
+  add-table,
+  strike-table,
+  change-table,
+  renumber-over-table,
+  combine-table,
+  move-table,
+}
 use Rattle.exact.proofs.Rightful.{
   Sound,
   add-sound,
@@ -77,6 +91,7 @@ use Rattle.exact.proofs.Rightful.{
   sound-ascends,
   sound-good,
 }
+use Rattle.exact.proofs.Renumbers.{renumber-over-sound, renumber-allowed}
 
 -- past two lists joined
 past-append : (xs ys : List ℕ) (k i : ℕ) → length xs ≡ k → k ≤ i → getD (xs ++ ys) i 0 ≡ getD ys (i - k) 0
@@ -194,10 +209,10 @@ module _ (c m : ℕ) (raw : List ℕ) (T : Table) where
   L = layerOf c m raw
 
   module _ (S : Sound c m raw (keys T)) where
-    step-slice : (x : Step) → Allowed c x (read T L) → Roomy c (length raw) (length (stepOn (keys T) x L)) → (k : ℕ)
-        → Edited c m (stepOn (keys T) x L) raw (edited c m (Done k) (stepOn (keys T) x L) raw)
+    step-slice : (x : Step) → Allowed c x (read T L) → Roomy c (length raw) (length (stepOn T x L)) → (k : ℕ)
+        → Edited c m (stepOn T x L) raw (edited c m (Done k) (stepOn T x L) raw)
     step-slice x w r k =
-        edited-of c (length T) m (stepOn (keys T) x L) raw (S .args .some) (S .args .columns)
+        edited-of c (length T) m (stepOn T x L) raw (S .args .some) (S .args .columns)
         (step-reads c T (sound-ascends c m raw T S) x L (read T L)
         (record { good = sound-good c m raw T S; reads = refl }) w .good .each)
         (S .args .fits) (r .1) k
@@ -234,6 +249,15 @@ module _ (c m : ℕ) (raw : List ℕ) (T : Table) where
       let S = change-sound c m raw (keys T) k r j v e in
       let own = w .1 .1 .1 .1 in
       rw e (step-slice S (changing r j (to v)) (row-there S r (own .0), own .1 .0, w .0 .1) (own .1 .1 .0) k)
+
+  -- a row that is renumbered has the table's width
+  pub renumber-over-slice : (ok : Bool) → Wide c T → (r g k : ℕ) → renumberOver ok c m raw T r g ≡ Done k
+      → Edited c m (renumberRow T r g L) raw (edited c m (renumberOver ok c m raw T r g) (renumberRow T r g L) raw)
+  renumber-over-slice ok wide r g k e =
+      let w = counts (renumber-over-table ok (ok ≡ true) (λ x. x, λ x. x) c m raw T r g) k e .1 in
+      let S = renumber-over-sound ok c m raw T r g k e .0 in
+      let own = w .1 .1 .1 .1 in
+      rw e (step-slice S (renumbering r g) (renumber-allowed c m raw T r g S wide .0 (own .0, own .1 .0)) (own .1 .1 .0) k)
 
   -- combining: R is the layer of raw
   combined-slice : (mW : ℕ) (rawW out : List ℕ) (k : ℕ) → combineAnswer c (keys T) m raw mW rawW (length out) ≡ Done k
@@ -287,6 +311,11 @@ module _ (c m : ℕ) (raw K : List ℕ) (k : ℕ) where
       → Edited c m (changedLayer c m raw N r j v) raw (changeSlice c m raw N r j v))
       (keys-singles K) (changed-slice c m raw (singles K) r j v k)
 
+  pub renumber-slice : (n : ℕ) (table : List ℕ) (r g : ℕ) → renumberAnswer c n m raw table r g ≡ Done k
+      → Edited c m (renumberedLayer c n m raw table r g) raw (renumberSlice c n m raw table r g)
+  renumber-slice n table r g =
+      renumber-over-slice c m raw (columnwise c n n table) (leb (c * n) (length table)) (columnwise-wide c n n table) r g k
+
   pub combine-slice : (mW : ℕ) (rawW out : List ℕ) → combineAnswer c K m raw mW rawW (length out) ≡ Done k
       → Written (flat c (combinedLayer c K m raw mW rawW)) out (combineSlice c K m raw mW rawW out)
       × (layerOf c k (combineSlice c K m raw mW rawW out) ≡ combinedLayer c K m raw mW rawW)
@@ -326,6 +355,10 @@ module _ (c m : ℕ) (raw K : List ℕ) (x : Refusal) where
 
   pub change-refused : (r j v : ℕ) → changeAnswer c m raw K r j v ≡ Refused x → changeSlice c m raw K r j v ≡ raw
   change-refused r j v e = rw e
+
+  pub renumber-refused : (n : ℕ) (table : List ℕ) (r g : ℕ) → renumberAnswer c n m raw table r g ≡ Refused x
+      → renumberSlice c n m raw table r g ≡ raw
+  renumber-refused n table r g e = rw e
 
   pub combine-refused : (mW : ℕ) (rawW out : List ℕ) → combineAnswer c K m raw mW rawW (length out) ≡ Refused x
       → combineSlice c K m raw mW rawW out ≡ out

@@ -1,14 +1,23 @@
 -- The refusal table of the scope, call by call, in literal numbers: its lines in order, and that the call answers
 -- exactly by them.
 -- Assumes nothing.
-use Prim.Native.Nat.{ℕ, suc, _+_, _-_, _≤_, _<_}
-use native.Mathlib.Nat.{zero-add}
+use Prim.Native.Nat.{ℕ, zero, suc, _+_, _-_, _*_, _≤_, _<_}
+use native.Mathlib.Nat.{zero-add, mul-le-mul-right}
 use native.Mathlib.Omega.{arith}
 use mathlib.Core.Path.{_≡_, refl, sym, ap, _∙_}
 use mathlib.Core.Logic.{_⊎_, inl, inr, ⊎-elim, _↔_}
 use mathlib.Core.Bool.{Bool, true, false, not, _&&_, true≢false}
-use mathlib.Core.List.{List, [], _∷_, _++_, List·Memᴰ as Mem}
-use lib.ListN.{length}
+use mathlib.Core.List.{
+  List,
+  [],
+  _∷_,
+  _++_,
+  List·Memᴰ as Mem,
+  List·Memᴰ·head as here,
+  List·Memᴰ·tail as next,
+  List·Memᴰ·not-nil as not-nil,
+}
+use lib.ListN.{length, getD, take}
 use lib.Dec.{leb, ltb, eqb}
 use borrow.Author.Tests.{
   ltb-true,
@@ -25,27 +34,28 @@ use borrow.Author.Tests.{
   ne-eqb,
   not-false,
 }
-use Rattle.order.specs.Lists.{ascending, any}
+use Rattle.order.specs.Lists.{ascending, any, without}
 use Rattle.order.proofs.Tests.{impossible, and-l, and-r, and-of, not-passed}
 use Rattle.order.proofs.Members.{any-mem, any-of}
 use Rattle.order.proofs.Counts.{count-insert}
 use Rattle.order.proofs.Pairs.{broken-le}
+use Rattle.order.proofs.Ascending.{mem-at, at-mem, at-length, at-getD, getD-at}
 use Rattle.words.specs.declared.Refusal.{Refusal}
 use Rattle.words.specs.declared.Answer.the-variants.{Done, Refused}
 use Rattle.words.specs.declared.Shifted.the-variants as shifted
 use Rattle.words.specs.declared.Back.{Back}
 use Rattle.words.specs.declared.Back.the-variants as backed
-use Rattle.model.specs.Row.{Row, key}
+use Rattle.model.specs.Row.{Row, Table, key, keys, columnwise}
 use Rattle.model.specs.Layer.{add, at, Layer, isAdd, isStrike, rowsAfter}
 use Rattle.model.specs.Raw.{entriesOf, layerOf, room}
 use Rattle.model.specs.Form.{argsOk, formPlace}
 use Rattle.model.specs.Fit.{suits, rises, fitPlace, keysBelow}
 use Rattle.model.specs.Read.{keysAfter}
 use Rattle.model.specs.Position.{shift, rowOf, Origin, base, added, back}
-use Rattle.model.specs.Edits.{before, addRow}
+use Rattle.model.specs.Edits.{before, addRow, renumberRow}
 use Rattle.model.specs.Conflict.{conflictPlace}
 use Rattle.model.specs.Demand.{Conflicting}
-use Rattle.model.specs.Refusals.{Test, breaksForm, shownKey}
+use Rattle.model.specs.Refusals.{Test, refuse, badRow, noRoom, breaksForm, shownKey}
 use Rattle.words.specs.Answer.{refusal}
 use Rattle.model.specs.Calls.{
   formRows,
@@ -67,11 +77,16 @@ use Rattle.model.specs.Calls.{
   strikeAnswer,
   changedLayer,
   changeAnswer,
+  renumberOver,
+  renumberedLayer,
+  renumberAnswer,
   combinedLayer,
   combineAnswer,
   moveAnswer,
 }
 use Rattle.theory.proofs.Raw.{layer-length, form-place}
+use Rattle.theory.proofs.Fit.{keys-length}
+use Rattle.theory.proofs.Columnwise.{columnwise-length, columnwise-keys}
 use Rattle.theory.proofs.Position.{rows-counted}
 use Rattle.theory.proofs.Edited.{add-length}
 use Rattle.exact.proofs.FormExactly.{FormKept, form-exactly, kept-in-order}
@@ -119,6 +134,32 @@ not-shown k K = (
   λ h m. true≢false (sym (any-of (eqb k) K k m (eq-eqb k k refl)) ∙ h),
   λ f. not-passed (any (eqb k) K) (λ h. let w = any-mem (eqb k) K h in f (rw (eqb-true k (w .0) (w .2)) (w .1))),
 )
+
+-- a key of the list stands in another row than r
+abbrev pub Elsewhere : ℕ → ℕ → List ℕ → Type 0
+Elsewhere g r xs = (i : ℕ) × (i < length xs) × (i ≡ r → ⊥) × (getD xs i 0 ≡ g)
+
+pub elsewhere-of : (r : ℕ) (xs : List ℕ) (g : ℕ) → Mem g (without r xs) → Elsewhere g r xs
+elsewhere-of r [] g m = absurd (not-nil m)
+elsewhere-of zero (x ∷ xs) g m =
+    let w = mem-at 0 xs g m in (suc (w .0), omega (arith, at-length (w .1)), λ e. omega arith, at-getD 0 (w .1))
+elsewhere-of (suc r) (x ∷ xs) g (here e) = (0, omega arith, λ f. omega arith, sym e)
+elsewhere-of (suc r) (x ∷ xs) g (next m) =
+    let w = elsewhere-of r xs g m in (suc (w .0), omega (arith, w .1), λ e. w .2 (omega arith), w .3)
+
+pub of-elsewhere : (r : ℕ) (xs : List ℕ) (i : ℕ) → i < length xs → (i ≡ r → ⊥) → Mem (getD xs i 0) (without r xs)
+of-elsewhere r [] i h ne = absurd (omega arith)
+of-elsewhere zero (x ∷ xs) zero h ne = absurd (ne refl)
+of-elsewhere zero (x ∷ xs) (suc i) h ne = at-mem (getD-at xs i 0 (omega arith))
+of-elsewhere (suc r) (x ∷ xs) zero h ne = here refl
+of-elsewhere (suc r) (x ∷ xs) (suc i) h ne = next (of-elsewhere r xs i (omega arith) (λ e. ne (ap suc e)))
+
+pub not-elsewhere : (g r : ℕ) (xs : List ℕ) → (shownKey g (without r xs) ≡ false) ↔ (Elsewhere g r xs → ⊥)
+not-elsewhere g r xs =
+    let w = not-shown g (without r xs) in (
+      λ h e. w .0 h (rw (← e .3) (of-elsewhere r xs (e .0) (e .1) (e .2))),
+      λ f. w .1 (λ m. f (elsewhere-of r xs g m)),
+    )
 
 -- 1 and 2 of a layer over n rows, where Own passes the arguments; 3 and 4
 abbrev pub formLines : Type 0 → ℕ → ℕ → ℕ → List ℕ → List Line
@@ -351,6 +392,60 @@ module _ (c m : ℕ) (raw K : List ℕ) where
         step refl (not-upto (rowsAfter (length K) (layerOf c m raw)) r) (λ u.
         step refl (in-room c (length raw) (length (struckLayer c m raw K r)) _ refl) (λ t. none)))))
 
+-- Renumbering row number r to g, over a table of n rows with the keys K, where Own passes: 7 where g is shown in another row
+-- than r, 9 by the entries of the layer M that is left.
+module _ (c n m : ℕ) (raw K : List ℕ) (r g : ℕ) where
+  abbrev pub renumberOwn : Layer → List Line
+  renumberOwn M =
+      line 5 0 (r < rowsAfter n (layerOf c m raw))
+      ∷ line 7 0 (Elsewhere g r (keysAfter K (layerOf c m raw)) → ⊥)
+      ∷ line 9 0 (Roomy c (length raw) (length M))
+      ∷ []
+
+  abbrev pub renumberLines : Type 0 → Layer → List Line
+  renumberLines Own M =
+      formLines (ArgsPass c n m (length raw) × Own) c n m raw ++ (fitLines K (layerOf c m raw) ++ renumberOwn M)
+
+  says-renumber : (ok : Bool) (Own : Type 0) → ((ok ≡ true) ↔ Own) → (M : Layer) (N : List ℕ) (p : ℕ) → p ≡ n
+      → (1 ≤ c → Own → N ≡ K)
+      → Says (formRows (argsOk c p m (length raw) && ok) c p m raw
+      ++ (fitRows N (layerOf c m raw)
+      ++ (badRow p (layerOf c m raw) r ∷ refuse 7 0 (shownKey g (without r (keysAfter N (layerOf c m raw))))
+      ∷ noRoom c (length raw) M ∷ []))) (renumberLines Own M)
+  says-renumber ok Own f M N p e same =
+      let L = layerOf c m raw in
+      rw e (says-then (says-form (argsOk c n m (length raw) && ok) _ (own-pass c n m (length raw) ok Own f) c n m raw (λ w. w .0))
+      (λ w. rw (same (w .0 .0 .some) (w .0 .1)) (says-then (says-fit K L) (λ v.
+      step refl (not-upto (rowsAfter n L) r) (λ u.
+      step refl (not-elsewhere g r (keysAfter K L)) (λ t.
+      step refl (in-room c (length raw) (length M) _ refl) (λ z. none)))))))
+
+pub renumber-over-table : (ok : Bool) (Own : Type 0) → ((ok ≡ true) ↔ Own) → (c m : ℕ) (raw : List ℕ) (T : Table) (r g : ℕ)
+    → Exactly Refused (renumberOver ok c m raw T r g) (Done (length (renumberRow T r g (layerOf c m raw))))
+    (renumberLines c (length (keys T)) m raw (keys T) r g Own (renumberRow T r g (layerOf c m raw)))
+unfolding renumberOver
+renumber-over-table ok Own f c m raw T r g =
+    exactly-counts _
+    (says-renumber c (length (keys T)) m raw (keys T) r g ok Own f (renumberRow T r g (layerOf c m raw)) (keys T)
+    (length (keys T)) refl (λ s w. refl))
+
+-- the table lent as one slice: its keys are the first n numbers, and fewer than c·n of them are refused with 1
+module _ (c n m : ℕ) (raw table : List ℕ) (r g : ℕ) where
+  abbrev pub renumberCallLines : List Line
+  renumberCallLines =
+      renumberLines c n m raw (take n table) r g (c * n ≤ length table) (renumberedLayer c n m raw table r g)
+
+  pub renumber-table : Exactly Refused (renumberAnswer c n m raw table r g)
+      (Done (length (renumberedLayer c n m raw table r g))) renumberCallLines
+  unfolding renumberOver
+  renumber-table =
+      let T = columnwise c n n table in
+      exactly-counts _
+      (says-renumber c n m raw (take n table) r g (leb (c * n) (length table)) (c * n ≤ length table)
+      (leb-true (c * n) (length table), le-leb (c * n) (length table)) (renumberedLayer c n m raw table r g) (keys T)
+      (length (keys T)) (keys-length T ∙ columnwise-length c n n table)
+      (λ s w. columnwise-keys c n n table s (omega (arith, mul-le-mul-right {m = 1} n s))))
+
 -- Combining R and W over the key column K, into a buffer of len numbers.
 module _ (c : ℕ) (K : List ℕ) (mR : ℕ) (rawR : List ℕ) (mW : ℕ) (rawW : List ℕ) where
   abbrev pub bothArgs : Type 0
@@ -432,6 +527,10 @@ module _ (c m : ℕ) (raw K : List ℕ) where
 
   pub change-numbers : (r j v : ℕ) → Numbered (changeLines c m raw K r j v) (1 ∷ 2 ∷ 3 ∷ 4 ∷ 5 ∷ 6 ∷ 9 ∷ [])
   change-numbers r j v = (refl, refl, refl)
+
+  pub renumber-numbers : (n r g : ℕ) (Own : Type 0) (M : Layer)
+      → Numbered (renumberLines c n m raw K r g Own M) (1 ∷ 2 ∷ 3 ∷ 4 ∷ 5 ∷ 7 ∷ 9 ∷ [])
+  renumber-numbers n r g Own M = (refl, refl, refl)
 
   pub combine-numbers : (k : ℕ) (other : List ℕ) (len : ℕ)
       → Numbered (combineLines c K m raw k other len) (1 ∷ 2 ∷ 2 ∷ 3 ∷ 4 ∷ 4 ∷ 9 ∷ 10 ∷ [])

@@ -1,7 +1,10 @@
 -- What a line does to the base table and the layer over it, and says.
 use mathlib.Core.Path.{_≡_}
+use mathlib.Core.Bool.{true}
 use mathlib.Core.List.{List, [], _∷_}
 use Prim.Native.Nat.{ℕ}
+use Rattle.model.specs.Raw.{layerOf}
+use Rattle.model.specs.Edits.{renumberRow}
 use Rattle.model.specs.Calls.{
   edited,
   addAnswer,
@@ -10,14 +13,15 @@ use Rattle.model.specs.Calls.{
   struckLayer,
   changeAnswer,
   changedLayer,
+  renumberOver,
 }
 use Rattle.words.specs.declared.Answer.{Answer}
 use Rattle.line.specs.declared.Line.{Line}
-use Rattle.line.specs.declared.Line.the-variants.{Base, Add, Strike, Change, Unreadable}
+use Rattle.line.specs.declared.Line.the-variants.{Base, Add, Strike, Change, Renumber, Unreadable}
 use Rattle.text.specs.declared.Said.the-variants.{Unread}
 use Rattle.base.specs.declared.Counts.{Counts}
 use Rattle.base.specs.declared.Reply.{Reply}
-use Rattle.base.specs.Base.{Sheet, baseKeys, stay, baseReply, baseTaken, withRow}
+use Rattle.base.specs.Base.{Sheet, baseKeys, baseTable, stay, baseReply, baseTaken, withRow}
 use Rattle.reply.specs.Reply.{entered}
 
 -- the answer of each edit
@@ -30,12 +34,16 @@ struck d x r = strikeAnswer 3 (d .entries) (x .layer) (baseKeys d x) r
 abbrev pub changed : Counts → Sheet → ℕ → ℕ → ℕ → Answer
 changed d x r j v = changeAnswer 3 (d .entries) (x .layer) (baseKeys d x) r j v
 
+abbrev pub renumbered : Counts → Sheet → ℕ → ℕ → Answer
+renumbered d x r g = renumberOver true 3 (d .entries) (x .layer) (baseTable d x) r g
+
 -- the reply to a line
 unfoldable pub heard : Line → Counts → Sheet → Reply
 heard (Base g s m) d x = baseReply g d (x .keys)
 heard (Add g s m) d x = entered d (added d x (g ∷ s ∷ m ∷ []))
 heard (Strike r) d x = entered d (struck d x r)
 heard (Change r j v) d x = entered d (changed d x r j v)
+heard (Renumber r g) d x = entered d (renumbered d x r g)
 heard Unreadable d x = stay d Unread
 
 -- the sheet with another layer
@@ -55,6 +63,9 @@ after (Strike r) d x =
 after (Change r j v) d x =
     let L = changedLayer 3 (d .entries) (x .layer) (baseKeys d x) r j v in
     withLayer x (edited 3 (d .entries) (changed d x r j v) L (x .layer))
+after (Renumber r g) d x =
+    let L = renumberRow (baseTable d x) r g (layerOf 3 (d .entries) (x .layer)) in
+    withLayer x (edited 3 (d .entries) (renumbered d x r g) L (x .layer))
 after Unreadable d x = x
 
 -- what is owed for a line: the reply, and the lent numbers afterwards

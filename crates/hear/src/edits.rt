@@ -1,8 +1,8 @@
-// The three edits.
+// The four edits.
 use base::Counts;
 use base::Reply;
 ghost use Prim.Native.Nat.{_≤_, _<_};
-ghost use Rattle.line.specs.declared.Line.the-variants.{Add, Strike, Change};
+ghost use Rattle.line.specs.declared.Line.the-variants.{Add, Strike, Change, Renumber};
 ghost use Rattle.base.specs.Base.{mostBase, sheetOf};
 ghost use Rattle.hear.specs.Heard.{Heard};
 
@@ -62,5 +62,22 @@ pub fn change_row(
         j as usize,
         v,
     );
+    reply::entered(counts, answer)
+}
+
+// Gives row number r the group number g.
+pub fn renumber_row(
+    counts: Counts,
+    r: u64,
+    g: u64,
+    table: &[u64; 1536],
+    layer: &mut [u64; 2560],
+) -> Reply
+    requires { ⌜ (counts .rows ≤ mostBase) × (counts .lines < 9223372036854775808) ⌝ }
+    ensures { λ x. ⌜ (let T = now (table .entry) in
+        Heard (Renumber r g) counts (sheetOf T (now (layer .entry))) x (sheetOf T (now (layer .exit)))) ⌝ }
+{
+    let n = counts.rows;
+    let answer = renumber::renumber_apart(3, n, 512, counts.entries, layer, table, r as usize, g);
     reply::entered(counts, answer)
 }

@@ -21,6 +21,7 @@ pub fn hear(counts: Counts, bytes: &[u8], table: &mut [u64; 1536], layer: &mut [
         Line::Add(g, s, m) => edits::add_row(counts, g, s, m, table, layer),
         Line::Strike(r) => edits::strike_row(counts, r, table, layer),
         Line::Change(r, j, v) => edits::change_row(counts, r, j, v, table, layer),
+        Line::Renumber(r, g) => edits::renumber_row(counts, r, g, table, layer),
         Line::Unreadable => base::stay(counts, Said::Unread),
     }
 }

@@ -14,7 +14,7 @@ use Rattle.order.proofs.Tests.{or-false}
 use Rattle.words.specs.declared.Answer.{Answer}
 use Rattle.words.specs.declared.Answer.the-variants as answer
 use Rattle.line.specs.declared.Line.{Line}
-use Rattle.line.specs.declared.Line.the-variants.{Base, Add, Strike, Change, Unreadable}
+use Rattle.line.specs.declared.Line.the-variants.{Base, Add, Strike, Change, Renumber, Unreadable}
 use Rattle.line.specs.Line.{lineOf}
 use Rattle.base.specs.declared.Counts.{Counts}
 use Rattle.base.specs.declared.Reply.{Reply}
@@ -23,7 +23,7 @@ use Rattle.text.specs.declared.Said.the-variants.{Unread, Refused}
 use Rattle.text.proofs.Writing.{wrote-before, wrote-then}
 use Rattle.base.specs.Base.{Sheet, mostBase, shut, belowLast, baseReply, stay, grown}
 use Rattle.reply.specs.Reply.{entered}
-use Rattle.hear.specs.Heard.{added, struck, changed, heard, Heard}
+use Rattle.hear.specs.Heard.{added, struck, changed, renumbered, heard, Heard}
 use Rattle.intake.specs.declared.Feed.{Feed}
 use Rattle.intake.specs.Reading.{Reading, mostKept, bytesIn, Writes, Took, Ended}
 
@@ -66,6 +66,7 @@ heard-counts (Base g s m) d x h = heard-base d g (x .keys) h
 heard-counts (Add g s m) d x h = heard-entered d (added d x (g ∷ s ∷ m ∷ [])) h
 heard-counts (Strike r) d x h = heard-entered d (struck d x r) h
 heard-counts (Change r j v) d x h = heard-entered d (changed d x r j v) h
+heard-counts (Renumber r g) d x h = heard-entered d (renumbered d x r g) h
 heard-counts Unreadable d x h = (h, refl)
 
 -- a line ended

@@ -4,7 +4,7 @@ use mathlib.Core.Path.{_≡_, refl}
 use mathlib.Core.List.{List, [], _∷_, map}
 use Prim.Native.Nat.{ℕ}
 use Rattle.line.specs.declared.Line.{Line}
-use Rattle.line.specs.declared.Line.the-variants.{Base, Add, Strike, Change, Unreadable}
+use Rattle.line.specs.declared.Line.the-variants.{Base, Add, Strike, Change, Renumber, Unreadable}
 use Rattle.decimal.specs.Number.{isNumber}
 use Rattle.line.specs.Line.{fields, lineOf}
 
@@ -14,6 +14,7 @@ lines =
     (43 ∷ 32 ∷ 49 ∷ 53 ∷ 32 ∷ 50 ∷ 32 ∷ 52 ∷ []) ∷
     (45 ∷ 32 ∷ 48 ∷ []) ∷
     (61 ∷ 32 ∷ 50 ∷ 32 ∷ 49 ∷ 32 ∷ 55 ∷ []) ∷
+    (33 ∷ 32 ∷ 50 ∷ 32 ∷ 51 ∷ 48 ∷ []) ∷
     (45 ∷ 32 ∷ 48 ∷ 48 ∷ 55 ∷ []) ∷
     (45 ∷ 32 ∷ 49 ∷ 56 ∷ 52 ∷ 52 ∷ 54 ∷ 55 ∷ 52 ∷ 52 ∷ 48 ∷ 55 ∷ 51 ∷ 55 ∷ 48 ∷ 57 ∷ 53 ∷ 53 ∷ 49 ∷ 54 ∷ 49 ∷ 53 ∷ []) ∷
     (45 ∷ 32 ∷ 49 ∷ 56 ∷ 52 ∷ 52 ∷ 54 ∷ 55 ∷ 52 ∷ 52 ∷ 48 ∷ 55 ∷ 51 ∷ 55 ∷ 48 ∷ 57 ∷ 53 ∷ 53 ∷ 49 ∷ 54 ∷ 49 ∷ 54 ∷ []) ∷
@@ -29,6 +30,9 @@ lines =
     (45 ∷ 32 ∷ 185 ∷ []) ∷
     (45 ∷ 32 ∷ 45 ∷ 49 ∷ []) ∷
     (66 ∷ 32 ∷ 49 ∷ 32 ∷ 50 ∷ []) ∷
+    (33 ∷ 32 ∷ 49 ∷ []) ∷
+    (33 ∷ 32 ∷ 49 ∷ 32 ∷ 50 ∷ 32 ∷ 51 ∷ []) ∷
+    (33 ∷ 32 ∷ 49 ∷ 32 ∷ []) ∷
     (61 ∷ 32 ∷ 49 ∷ 32 ∷ 50 ∷ 32 ∷ 51 ∷ 32 ∷ 52 ∷ []) ∷
     (98 ∷ 32 ∷ 49 ∷ 32 ∷ 50 ∷ 32 ∷ 51 ∷ []) ∷
     []
@@ -44,6 +48,8 @@ meanings =
     Strike 0 ∷
     -- `= 2 1 7`
     Change 2 1 7 ∷
+    -- `! 2 30`
+    Renumber 2 30 ∷
     -- `- 007`
     Strike 7 ∷
     -- `- 18446744073709551615`
@@ -73,6 +79,12 @@ meanings =
     -- `- -1`
     Unreadable ∷
     -- `B 1 2`
+    Unreadable ∷
+    -- `! 1`
+    Unreadable ∷
+    -- `! 1 2 3`
+    Unreadable ∷
+    -- `! 1 `
     Unreadable ∷
     -- `= 1 2 3 4`
     Unreadable ∷

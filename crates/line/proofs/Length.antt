@@ -64,7 +64,7 @@ said-none [] (a ∷ b ∷ c ∷ []) h k = refl
 said-none [] (a ∷ b ∷ c ∷ d ∷ fs) h k = refl
 said-none (x ∷ []) [] h k = refl
 said-none (x ∷ []) (a ∷ []) h k = absurd (omega arith)
-said-none (x ∷ []) (a ∷ b ∷ []) h k = refl
+said-none (x ∷ []) (a ∷ b ∷ []) h k = absurd (omega arith)
 said-none (x ∷ []) (a ∷ b ∷ c ∷ []) h k = absurd (omega arith)
 said-none (x ∷ []) (a ∷ b ∷ c ∷ d ∷ fs) h k = refl
 

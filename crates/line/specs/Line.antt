@@ -1,11 +1,12 @@
--- What a line says: `B g s m` a base row, `+ g s m` adds, `- r` strikes, `= r j v` changes; any other line is unreadable.
+-- What a line says: `B g s m` a base row, `+ g s m` adds, `- r` strikes, `= r j v` changes, `! r g` renumbers; any other line is
+-- unreadable.
 use mathlib.Core.Bool.{Bool, false, cond}
 use mathlib.Core.List.{List, [], _∷_, map}
 use Prim.Native.Nat.{ℕ}
 use lib.Dec.{eqb}
 use Rattle.order.specs.Lists.{all}
 use Rattle.line.specs.declared.Line.{Line}
-use Rattle.line.specs.declared.Line.the-variants.{Base, Add, Strike, Change, Unreadable}
+use Rattle.line.specs.declared.Line.the-variants.{Base, Add, Strike, Change, Renumber, Unreadable}
 use Rattle.decimal.specs.Number.{value, isNumber}
 
 -- a byte in front of the first field
@@ -24,11 +25,11 @@ is x [] = false
 is x (b ∷ []) = eqb b x
 is x (b ∷ c ∷ f) = false
 
--- what the first field says of the numbers behind it: B and three, + and three, - and one, = and three
+-- what the first field says of the numbers behind it: B and three, + and three, - and one, = and three, ! and two
 abbrev pub said : List ℕ → List ℕ → Line
 said f [] = Unreadable
 said f (r ∷ []) = cond (is 45 f) (Strike r) Unreadable
-said f (a ∷ b ∷ []) = Unreadable
+said f (a ∷ b ∷ []) = cond (is 33 f) (Renumber a b) Unreadable
 said f (a ∷ b ∷ c ∷ []) =
     cond (is 66 f) (Base a b c) (cond (is 43 f) (Add a b c) (cond (is 61 f) (Change a b c) Unreadable))
 said f (a ∷ b ∷ c ∷ d ∷ vs) = Unreadable

@@ -8,12 +8,13 @@ ghost use Rattle.line.specs.Line.{fields, said, lineOf};
 ghost use Rattle.line.specs.Fields.{withFields};
 
 // What a line says: a base row, a row to add, the number of a row to strike, a row number, a column and a value to
-// change it to; or nothing that can be read.
+// change it to, a row number and the group number to give it; or nothing that can be read.
 pub enum Line {
     Base(u64, u64, u64),
     Add(u64, u64, u64),
     Strike(u64),
     Change(u64, u64, u64),
+    Renumber(u64, u64),
     Unreadable,
 }
 
@@ -23,6 +24,16 @@ fn one(sign: u8, r: u64) -> Line
 {
     if sign == b'-' {
         return Line::Strike(r);
+    }
+    Line::Unreadable
+}
+
+// What the sign says of two numbers.
+fn two(sign: u8, a: u64, b: u64) -> Line
+    ensures { λ l. ⌜ l ≡ said (sign ∷ []) (a ∷ b ∷ []) ⌝ }
+{
+    if sign == b'!' {
+        return Line::Renumber(a, b);
     }
     Line::Unreadable
 }
@@ -61,7 +72,7 @@ fn with_second(bytes: &[u8], at: usize, sign: u8, a: u64) -> Line
     ensures { λ l. ⌜ l ≡ withFields (sign ∷ []) (a ∷ []) (fields (drop at (now (bytes .entry)))) ⌝ }
 {
     match field::number_at(bytes, at) {
-        Field::Last(_) => Line::Unreadable,
+        Field::Last(b) => two(sign, a, b),
         Field::More(b, next) => with_third(bytes, next, sign, a, b),
         Field::Bad => Line::Unreadable,
     }

@@ -1,23 +1,24 @@
 -- The calls: each answer is the rows of the refusal table, one after the other, then the result; and what each lent slice holds afterwards.
-use mathlib.Core.Bool.{Bool, not, _&&_}
+use mathlib.Core.Bool.{Bool, _&&_}
 use mathlib.Core.List.{List, [], _∷_, _++_}
 use Prim.Native.Nat.{ℕ, _+_, _-_, _*_, max}
 use lib.ListN.{length, take, drop, replicate}
 use lib.Dec.{leb, ltb, eqb}
+use Rattle.order.specs.Lists.{without}
 use Rattle.words.specs.declared.Answer.{Answer}
 use Rattle.words.specs.declared.Answer.the-variants.{Done, Refused}
 use Rattle.words.specs.declared.Shifted.{Shifted}
 use Rattle.words.specs.declared.Shifted.the-variants as shifted
 use Rattle.words.specs.declared.Back.{Back}
 use Rattle.words.specs.declared.Back.the-variants as backed
-use Rattle.model.specs.Row.{Row, key}
+use Rattle.model.specs.Row.{Row, Table, key, keys, columnwise}
 use Rattle.model.specs.Cell.{CellEdit, to}
 use Rattle.model.specs.Layer.{Layer, rowsAfter}
 use Rattle.model.specs.Raw.{layerOf, flat}
 use Rattle.model.specs.Form.{argsOk}
 use Rattle.model.specs.Read.{readColumn, keysAfter, Part, wholeBase, bufferFront, emptyBase, viewed}
 use Rattle.model.specs.Position.{shift, rowOf, Origin, base, added, back}
-use Rattle.model.specs.Edits.{addRow, strikeRow, changeRowNo}
+use Rattle.model.specs.Edits.{addRow, strikeRow, changeRowNo, renumberRow}
 use Rattle.model.specs.Redo.{combine}
 use Rattle.model.specs.Conflict.{conflict, conflictPlace}
 use Rattle.model.specs.Move.{move}
@@ -178,6 +179,31 @@ changeAnswer c m raw K r j v =
 
 abbrev pub changeSlice : ℕ → ℕ → List ℕ → List ℕ → ℕ → ℕ → ℕ → List ℕ
 changeSlice c m raw K r j v = edited c m (changeAnswer c m raw K r j v) (changedLayer c m raw K r j v) raw
+
+-- renumber row number r to g, over a table that `ok` says is lent whole
+abbrev pub renumberRows : ℕ → ℕ → Table → Layer → ℕ → ℕ → List Test
+renumberRows c len T L r g =
+    let K = keys T in
+    badRow (length K) L r ∷ refuse 7 0 (shownKey g (without r (keysAfter K L))) ∷ noRoom c len (renumberRow T r g L) ∷ []
+
+unfoldable pub renumberOver : Bool → ℕ → ℕ → List ℕ → Table → ℕ → ℕ → Answer
+renumberOver ok c m raw T r g =
+    let K = keys T in
+    let n = length K in
+    let L = layerOf c m raw in
+    firstMet Refused (formRows (argsOk c n m (length raw) && ok) c n m raw
+    ++ (fitRows K L ++ renumberRows c (length raw) T L r g)) (Done (length (renumberRow T r g L)))
+
+-- the table of n rows lies in the slice `table`, its columns end to end: c·n numbers at least
+abbrev pub renumberedLayer : ℕ → ℕ → ℕ → List ℕ → List ℕ → ℕ → ℕ → Layer
+renumberedLayer c n m raw table r g = renumberRow (columnwise c n n table) r g (layerOf c m raw)
+
+abbrev pub renumberAnswer : ℕ → ℕ → ℕ → List ℕ → List ℕ → ℕ → ℕ → Answer
+renumberAnswer c n m raw table r g = renumberOver (leb (c * n) (length table)) c m raw (columnwise c n n table) r g
+
+abbrev pub renumberSlice : ℕ → ℕ → ℕ → List ℕ → List ℕ → ℕ → ℕ → List ℕ
+renumberSlice c n m raw table r g =
+    edited c m (renumberAnswer c n m raw table r g) (renumberedLayer c n m raw table r g) raw
 
 -- combine the lower layer R and the upper W into a buffer of len numbers
 abbrev pub combinedLayer : ℕ → List ℕ → ℕ → List ℕ → ℕ → List ℕ → Layer

@@ -1,15 +1,15 @@
--- The three edits as new layers: an entry goes where its position, kind, key or column puts it.
+-- The edits as new layers: an entry goes where its position, kind, key or column puts it.
 use mathlib.Core.Bool.{Bool, true, false, not, cond, _&&_, _||_}
 use mathlib.Core.List.{List, [], _∷_}
 use Prim.Native.Nat.{ℕ, zero, suc}
 use lib.ListN.{length, getD}
 use lib.Dec.{ltb, eqb}
 use Rattle.order.specs.Lists.{filter, insert, without}
-use Rattle.model.specs.Row.{Row, key}
+use Rattle.model.specs.Row.{Row, Table, key, keys, withKey}
 use Rattle.model.specs.Cell.{CellEdit, over, put}
 use Rattle.model.specs.Layer.{Deed, add, strike, change, Edit, at, Layer, changesRow, changesCell}
 use Rattle.model.specs.Fit.{keysBelow}
-use Rattle.model.specs.Read.{keysAfter}
+use Rattle.model.specs.Read.{read, keysAfter}
 use Rattle.model.specs.Position.{Origin, base, added, back}
 
 -- at one position adds stand first, in key order; then a strike, or changes in column order
@@ -77,6 +77,13 @@ changeOrigin j e L (added i) = changeAdded i j e L
 
 unfoldable pub changeRowNo : List ℕ → ℕ → ℕ → CellEdit → Layer → Layer
 changeRowNo K r j e L = changeOrigin j e L (back (length K) L r)
+
+-- renumber row number r of the table read through the layer to g: where the row has that number, the layer as it is; else
+-- the row is struck, and added with g as its key and its other values as they are shown
+unfoldable pub renumberRow : Table → ℕ → ℕ → Layer → Layer
+renumberRow T r g L =
+    let row = getD (read T L) r [] in
+    cond (eqb (key row) g) L (addRow (keys T) (withKey g row) (strikeRow (keys T) r L))
 
 -- the row number of a shown key: the number of shown keys below it
 abbrev pub rowOfKey : List ℕ → Layer → ℕ → ℕ

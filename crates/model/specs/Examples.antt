@@ -1,22 +1,22 @@
--- E1 to E12 of the scope and those of request 2, one table of data; and what it is for a line of it to hold.
+-- E1 to E12 of the scope and those of requests 2 and 4, one table of data; and what it is for a line of it to hold.
 use mathlib.Core.Bool.{Bool, true, false, not, _&&_}
 use mathlib.Core.List.{List, [], _∷_, map}
-use Prim.Native.Nat.{ℕ, suc}
+use Prim.Native.Nat.{ℕ}
 use lib.ListN.{length}
 use lib.IntN.{ℤ, pos, negsuc}
 use lib.Dec.{eqb}
-use Rattle.order.specs.Lists.{all, ascending, inTurn}
-use Rattle.model.specs.Row.{Row, Table, keys}
+use Rattle.order.specs.Lists.{inTurn}
+use Rattle.model.specs.Row.{Table, keys}
 use Rattle.model.specs.Cell.{to}
-use Rattle.model.specs.Layer.{Deed, add, strike, change, Edit, at, Layer, position}
+use Rattle.model.specs.Layer.{add, strike, change, at, Layer, position}
 use Rattle.model.specs.Raw.{flat}
 use Rattle.model.specs.Form.{keepsForm}
 use Rattle.model.specs.Fit.{fits}
-use Rattle.model.specs.Read.{read, keysAfter}
+use Rattle.model.specs.Read.{read}
 use Rattle.model.specs.Position.{shift}
-use Rattle.model.specs.Steps.{Step, adding, striking, stepOn}
+use Rattle.model.specs.Steps.{Step, adding, striking, changing, renumbering, stepOn, stepBy}
 use Rattle.model.specs.Redo.{redo, onTable, combine}
-use Rattle.model.specs.Conflict.{Rule, ruleNumber, clash, conflict, conflictPlace}
+use Rattle.model.specs.Conflict.{conflict, conflictPlace}
 use Rattle.model.specs.Move.{move}
 
 -- base, c = 2
@@ -24,7 +24,7 @@ abbrev pub four : Table
 four = (10 ∷ 1 ∷ []) ∷ (20 ∷ 2 ∷ []) ∷ (30 ∷ 4 ∷ []) ∷ (40 ∷ 8 ∷ []) ∷ []
 
 pub data Example : Type 0 where
-  -- edits from an empty layer: the layer that they leave, the table read through it
+  -- edits from an empty layer: the layer that they leave, the table read through it, which is theirs done by key
   edits : List Step → Layer → Table → Example
   -- shifts of a layer at base positions
   shifts : Layer → List ℕ → List ℤ → Example
@@ -67,7 +67,8 @@ abbrev good : Table → Layer → Bool
 good T L = is T L L
 
 abbrev pub holds : Example → Bool
-holds (edits steps L T) = is four (inTurn (stepOn (keys four)) steps []) L && sameRows (read four L) T
+holds (edits steps L T) =
+    is four (inTurn (stepOn four) steps []) L && sameRows (read four L) T && sameRows (inTurn stepBy steps four) T
 holds (shifts L ss zs) = good four L && allSigned L ss zs
 holds (passes X Y ps qs T) =
     good four X && good four Y && not (conflict X Y)
@@ -129,4 +130,23 @@ examples =
     ∷ combines (at 2 (change 1 (to 5)) ∷ []) (at 2 (change 1 (to 5)) ∷ []) (at 2 (change 1 (to 5)) ∷ [])
     -- one to 5, the other to 6: refusal 8, at the place of the change
     ∷ refuses (at 1 (strike 20) ∷ at 2 (change 1 (to 5)) ∷ []) (at 2 (change 1 (to 6)) ∷ []) 1
+    -- request 4: a base row renumbered upward and downward keeps its other values, changes included; its changes go
+    ∷ edits (renumbering 0 25 ∷ []) (at 0 (strike 10) ∷ at 2 (add (25 ∷ 1 ∷ [])) ∷ [])
+    ((20 ∷ 2 ∷ []) ∷ (25 ∷ 1 ∷ []) ∷ (30 ∷ 4 ∷ []) ∷ (40 ∷ 8 ∷ []) ∷ [])
+    ∷ edits (changing 3 1 (to 9) ∷ renumbering 3 15 ∷ []) (at 1 (add (15 ∷ 9 ∷ [])) ∷ at 3 (strike 40) ∷ [])
+    ((10 ∷ 1 ∷ []) ∷ (15 ∷ 9 ∷ []) ∷ (20 ∷ 2 ∷ []) ∷ (30 ∷ 4 ∷ []) ∷ [])
+    -- an added row past a base row, among adds at one position, and to its own number
+    ∷ edits (adding (25 ∷ 7 ∷ []) ∷ renumbering 2 35 ∷ []) (at 3 (add (35 ∷ 7 ∷ [])) ∷ [])
+    ((10 ∷ 1 ∷ []) ∷ (20 ∷ 2 ∷ []) ∷ (30 ∷ 4 ∷ []) ∷ (35 ∷ 7 ∷ []) ∷ (40 ∷ 8 ∷ []) ∷ [])
+    ∷ edits (adding (25 ∷ 7 ∷ []) ∷ adding (27 ∷ 9 ∷ []) ∷ renumbering 2 29 ∷ [])
+    (at 2 (add (27 ∷ 9 ∷ [])) ∷ at 2 (add (29 ∷ 7 ∷ [])) ∷ [])
+    ((10 ∷ 1 ∷ []) ∷ (20 ∷ 2 ∷ []) ∷ (27 ∷ 9 ∷ []) ∷ (29 ∷ 7 ∷ []) ∷ (30 ∷ 4 ∷ []) ∷ (40 ∷ 8 ∷ []) ∷ [])
+    ∷ edits (adding (25 ∷ 7 ∷ []) ∷ renumbering 2 25 ∷ []) (at 2 (add (25 ∷ 7 ∷ [])) ∷ [])
+    ((10 ∷ 1 ∷ []) ∷ (20 ∷ 2 ∷ []) ∷ (25 ∷ 7 ∷ []) ∷ (30 ∷ 4 ∷ []) ∷ (40 ∷ 8 ∷ []) ∷ [])
+    -- a base row to its own number: no entry; away and back: a strike, and an add of its own key in front of it
+    ∷ edits (renumbering 1 20 ∷ []) [] four
+    ∷ edits (renumbering 1 25 ∷ renumbering 1 20 ∷ []) (at 1 (add (20 ∷ 2 ∷ [])) ∷ at 1 (strike 20) ∷ []) four
+    -- an added row away and back: the layer as it was
+    ∷ edits (adding (25 ∷ 7 ∷ []) ∷ renumbering 2 45 ∷ renumbering 4 25 ∷ []) (at 2 (add (25 ∷ 7 ∷ [])) ∷ [])
+    ((10 ∷ 1 ∷ []) ∷ (20 ∷ 2 ∷ []) ∷ (25 ∷ 7 ∷ []) ∷ (30 ∷ 4 ∷ []) ∷ (40 ∷ 8 ∷ []) ∷ [])
     ∷ []

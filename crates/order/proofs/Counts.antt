@@ -1,7 +1,7 @@
 -- How many elements pass: of joined lists, of tests that add up, of mapped lists.
 -- Assumes nothing.
 use mathlib.Core.Path.{_≡_, refl, sym, ap, _∙_}
-use mathlib.Core.Bool.{Bool, true, false, cond}
+use mathlib.Core.Bool.{Bool, true, false, not, cond}
 use mathlib.Core.List.{List, [], _∷_, _++_, map, List·Memᴰ as Mem, List·Memᴰ·head as here, List·Memᴰ·tail as next}
 use Prim.Native.Nat.{suc, _+_, _-_, _≤_}
 use native.Mathlib.Omega.{arith}
@@ -31,6 +31,17 @@ module _ {A : Type 0} where
   pub count-le : (f : A → Bool) (xs : List A) → count f xs ≤ length xs
   count-le f [] = omega arith
   count-le f (x ∷ xs) = omega (arith, one-le (f x), count-le f xs)
+
+  -- those that do not pass, and those that do
+  pub filter-count : (f : A → Bool) (xs : List A) → length (filter (λ x. not (f x)) xs) + count f xs ≡ length xs
+  filter-count f [] = omega arith
+  filter-count f (x ∷ xs) = go (filter-count f xs) (f x)
+    where
+      go : length (filter (λ x. not (f x)) xs) + count f xs ≡ length xs → (t : Bool)
+          → length (cond (not t) (x ∷ filter (λ x. not (f x)) xs) (filter (λ x. not (f x)) xs)) + (one t + count f xs)
+          ≡ suc (length xs)
+      go ih true = omega arith
+      go ih false = omega arith
 
   pub count-all : (xs : List A) → count (λ x. true) xs ≡ length xs
   count-all [] = refl

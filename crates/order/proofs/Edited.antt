@@ -2,7 +2,7 @@
 -- Assumes nothing.
 use mathlib.Core.Path.{_≡_, refl, sym, ap, _∙_}
 use mathlib.Core.Logic.{_⊎_, inl, inr, ⊎-elim}
-use mathlib.Core.Bool.{Bool, true, false, not, cond}
+use mathlib.Core.Bool.{Bool, true, false, not, cond, _||_}
 use mathlib.Core.List.{
   List,
   [],
@@ -18,7 +18,7 @@ use native.Mathlib.Omega.{arith}
 use lib.ListN.{length, set}
 use lib.Dec.{eqb}
 use borrow.Author.Tests.{eq-eqb, ne-eqb}
-use Rattle.order.specs.Lists.{filter, insert, without, inTurn}
+use Rattle.order.specs.Lists.{any, filter, insert, without, inTurn}
 use Rattle.order.proofs.Pairs.{AllPairs}
 use Rattle.order.proofs.Ascending.{At, top, deep, at-mem, at-from, AscFrom, asc-mem}
 
@@ -65,6 +65,12 @@ module _ {A : Type 0} where
   length-without zero (y ∷ M) h = refl
   length-without (suc i) (y ∷ M) h = ap suc (length-without i M (omega arith))
 
+  -- what does not pass is not missed
+  pub any-without : (f : A → Bool) (i : ℕ) (M : List A) (q : A) → At q i 0 M → f q ≡ false → any f (without i M) ≡ any f M
+  any-without f i [] q a e = absurd (at-none a)
+  any-without f zero (y ∷ M) q a e = rw (sym (ap f (at-head a)) ∙ e)
+  any-without f (suc i) (y ∷ M) q a e = ap (λ (t : Bool). f y || t) (any-without f i M q (at-tail a) e)
+
   pub pairs-without : (R : A → A → Bool) (i : ℕ) (M : List A) → AllPairs R M → AllPairs R (without i M)
   pairs-without R i [] p = tt
   pairs-without R zero (y ∷ M) p = p .1
@@ -91,11 +97,22 @@ module _ {A : Type 0} where
       (ap (λ (t : List A). y ∷ t) (insert-without R i M q r (p .1) (at-tail a) (λ x m. up x (next m)) (λ x m. down x (next m))))
 
 module _ {A B : Type 0} where
+  -- a mapped element stands where it stood
+  pub map-at : (f : A → B) {q : A} {p s : ℕ} {M : List A} → At q p s M → At (f q) p s (map f M)
+  map-at f (top e h) = top (ap f e) h
+  map-at f (deep a) = deep (map-at f a)
+
   -- a place in a mapped list
   pub at-map : (f : A → B) (i : ℕ) (M : List A) (b : B) → At b i 0 (map f M) → (q : A) × At q i 0 M × (b ≡ f q)
   at-map f i [] b a = absurd (at-none a)
   at-map f zero (x ∷ M) b a = (x, top refl refl, at-head a)
   at-map f (suc i) (x ∷ M) b a = let w = at-map f i M b (at-tail a) in (w .0, at-next x (w .1), w .2)
+
+  -- what is taken out of a map's list is mapped no more
+  pub without-map : (f : A → B) (i : ℕ) (M : List A) → without i (map f M) ≡ map f (without i M)
+  without-map f i [] = refl
+  without-map f zero (x ∷ M) = refl
+  without-map f (suc i) (x ∷ M) = ap (λ (t : List B). f x ∷ t) (without-map f i M)
 
   -- what each step of a walk keeps, the walk keeps
   pub turn-keeps : (P : B → Type 0) (f : A → B → B) (xs : List A) (b : B)

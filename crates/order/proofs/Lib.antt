@@ -9,3 +9,4 @@ pub mod Neighbours
 pub mod First
 pub mod Splice
 pub mod Unique
+pub mod UpFrom

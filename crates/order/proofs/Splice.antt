@@ -2,24 +2,30 @@
 -- the list's rest.
 -- Assumes nothing.
 use mathlib.Core.Path.{_≡_, refl, sym, ap, _∙_}
+use mathlib.Core.Logic.{⊎-elim}
 use mathlib.Core.Bool.{Bool, true, false, not, cond, true≢false}
 use mathlib.Core.List.{
   List,
   [],
   _∷_,
   _++_,
+  append-assoc,
   List·Memᴰ as Mem,
   List·Memᴰ·head as here,
   List·Memᴰ·tail as next,
   List·Memᴰ·not-nil as not-nil,
+  List·Memᴰ·append-cases as append-cases,
 }
-use Prim.Native.Nat.{ℕ, zero, suc, _+_, _-_}
+use Prim.Native.Nat.{ℕ, zero, suc, _+_, _-_, _≤_, _<_}
 use native.Mathlib.Nat.{suc-add, sub-zero, zero-sub, suc-sub-suc}
+use native.Mathlib.Omega.{arith}
 use lib.ListN.{take, drop, take-append-drop}
-use lib.Seq.{drop-drop, drop-nil, take-nil}
+use lib.Seq.{drop-drop, drop-nil, take-nil, take-take}
 use Rattle.order.specs.Lists.{filter, insert, without, firstAt}
 use Rattle.order.proofs.Tests.{not-passed}
 use Rattle.order.proofs.Pairs.{AllPairs}
+use Rattle.order.proofs.Ascending.{At, at-mem}
+use Rattle.order.proofs.Edited.{at-head, at-tail, at-none}
 
 module _ {A : Type 0} where
   pub drop-mem : (i : ℕ) (L : List A) (x : A) → Mem x (drop i L) → Mem x L
@@ -32,6 +38,28 @@ module _ {A : Type 0} where
   take-mem (suc i) [] e m = absurd (not-nil m)
   take-mem (suc i) (x ∷ L) e (here f) = here f
   take-mem (suc i) (x ∷ L) e (next m) = next (take-mem i L e m)
+
+  -- a shorter front, a later rest
+  take-within : (i j : ℕ) (L : List A) (x : A) → i ≤ j → Mem x (take i L) → Mem x (take j L)
+  take-within i j L x h m = take-mem i (take j L) x (rw (take-take i j L h) m)
+
+  drop-within : (i j : ℕ) (L : List A) (x : A) → i ≤ j → Mem x (drop j L) → Mem x (drop i L)
+  drop-within i j L x h m =
+      let n : i + (j - i) ≡ j = omega arith in
+      drop-mem (j - i) (drop i L) x (rw (drop-drop (j - i) i L, n) m)
+
+  -- an element stands in every front that reaches past it, and in every rest that begins up to it
+  pub at-front : {x : A} (i j : ℕ) (L : List A) → At x i 0 L → i < j → Mem x (take j L)
+  at-front i j [] a h = absurd (at-none a)
+  at-front i zero (y ∷ L) a h = absurd (omega arith)
+  at-front zero (suc j) (y ∷ L) a h = here (at-head a)
+  at-front (suc i) (suc j) (y ∷ L) a h = next (at-front i j L (at-tail a) (omega arith))
+
+  pub at-rest : {x : A} (i j : ℕ) (L : List A) → At x i 0 L → j ≤ i → Mem x (drop j L)
+  at-rest i zero L a h = at-mem a
+  at-rest i (suc j) [] a h = absurd (at-none a)
+  at-rest zero (suc j) (y ∷ L) a h = absurd (omega arith)
+  at-rest (suc i) (suc j) (y ∷ L) a h = at-rest i j L (at-tail a) (omega arith)
 
   -- a part of a list from `from` up to `end`, the two ways to say it
   pub part : (from end : ℕ) (xs : List A) → take (end - from) (drop from xs) ≡ drop from (take end xs)
@@ -91,6 +119,41 @@ module _ {A : Type 0} (R : A → A → Bool) (e : A) where
   insert-at i L f r =
       ap (insert R e) (sym (take-append-drop i L))
       ∙ (insert-past (take i L) (drop i L) f ∙ ap (λ (t : List A). take i L ++ t) (insert-first (drop i L) r))
+
+  -- An element entered where those from number i up to n have made way for N: it lands at j in the list as it was.
+  module _ (i j n : ℕ) (N L : List A) (f : (d : A) → Mem d (take j L) → R d e ≡ true)
+      (r : (d : A) → Mem d (drop j L) → R d e ≡ false) (m : i ≤ n) where
+    -- in front of N
+    pub insert-ahead : j ≤ i → ((d : A) → Mem d N → R d e ≡ false)
+        → insert R e (take i L ++ (N ++ drop n L)) ≡ take j L ++ (e ∷ (take (i - j) (drop j L) ++ (N ++ drop n L)))
+    insert-ahead h none =
+        let X = take (i - j) (drop j L) in
+        let Y = N ++ drop n L in
+        let whole : take i L ≡ take j L ++ X =
+        sym (rw (part j i L, ← take-take j i L h) (take-append-drop j (take i L))) in
+        let later : (d : A) → Mem d (X ++ Y) → R d e ≡ false =
+        λ d k. ⊎-elim (λ a. r d (take-mem (i - j) (drop j L) d a))
+        (λ a. ⊎-elim (λ b. none d b) (λ b. r d (drop-within j n L d (omega arith) b)) (append-cases N a)) (append-cases X k) in
+        ap (λ (t : List A). insert R e (t ++ Y)) whole
+        ∙ (ap (insert R e) (append-assoc (take j L) X Y)
+        ∙ (insert-past (take j L) (X ++ Y) f ∙ ap (λ (t : List A). take j L ++ t) (insert-first (X ++ Y) later)))
+
+    -- behind N
+    pub insert-behind : n ≤ j → ((d : A) → Mem d N → R d e ≡ true)
+        → insert R e (take i L ++ (N ++ drop n L)) ≡ take i L ++ (N ++ (take (j - n) (drop n L) ++ (e ∷ drop j L)))
+    insert-behind h all =
+        let X = take (j - n) (drop n L) in
+        let t : n + (j - n) ≡ j = omega arith in
+        let whole : drop n L ≡ X ++ drop j L =
+        sym (ap (λ (k : ℕ). X ++ drop k L) (sym t) ∙ rw (← drop-drop (j - n) n L) (take-append-drop (j - n) (drop n L))) in
+        let inside : (d : A) → Mem d X → R d e ≡ true =
+        λ d k. f d (drop-mem n (take j L) d (rw (part n j L) at k)) in
+        insert-past (take i L) (N ++ drop n L) (λ d k. f d (take-within i j L d (omega arith) k))
+        ∙ ap (λ (t : List A). take i L ++ t)
+        (insert-past N (drop n L) all
+        ∙ ap (λ (t : List A). N ++ t)
+        (ap (insert R e) whole
+        ∙ (insert-past X (drop j L) inside ∙ ap (λ (t : List A). X ++ t) (insert-first (drop j L) r))))
 
   -- and others taken out, the k from number i on
   module _ (g : A → Bool) where

@@ -2,8 +2,7 @@
 use mathlib.Core.Bool.{Bool, true, false, not, cond, _&&_, _||_}
 use mathlib.Core.List.{List, [], _∷_, _++_}
 use Prim.Native.Nat.{ℕ, zero, suc, _+_}
-use lib.ListN.{length}
-use lib.Dec.{eqb, ltb}
+use lib.Dec.{ltb}
 
 -- a test as a number
 abbrev pub one : Bool → ℕ
@@ -47,6 +46,11 @@ module _ {A : Type 0} where
   leastBroken alone pair earlier [] = 0
   leastBroken alone pair earlier (x ∷ xs) =
       cond (alone x && all (λ y. pair y x) earlier) (suc (leastBroken alone pair (x ∷ earlier) xs)) 0
+
+  -- what f gives for k numbers, one after the other from s on
+  abbrev pub upFrom : (ℕ → A) → ℕ → ℕ → List A
+  upFrom f s zero = []
+  upFrom f s (suc k) = f s ∷ upFrom f (suc s) k
 
   -- how many elements stand before the first that passes
   abbrev pub firstAt : (A → Bool) → List A → ℕ

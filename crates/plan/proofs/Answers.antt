@@ -1,7 +1,7 @@
 -- What an edit answers past the first four refusals, and what it leaves in the slice.
 -- Assumes nothing.
 use Prim.Native.Nat.{ℕ}
-use mathlib.Core.Path.{_≡_, sym, ap, _∙_}
+use mathlib.Core.Path.{_≡_, sym, ap, _∙_, subst}
 use mathlib.Core.List.{List, [], _∷_}
 use lib.ListN.{length}
 use borrow.Author.Tests.{le-ltb}
@@ -13,14 +13,19 @@ use Rattle.model.specs.Raw.{Held, layerOf, room}
 use Rattle.model.specs.Refusals.{firstMet, noRoom}
 use Rattle.model.specs.Calls.{edited, readyAnswer}
 use Rattle.theory.proofs.Stages.{onward}
+use Rattle.splice.specs.declared.Splice.{Splice}
 use Rattle.enter.specs.declared.Value.{Value}
 use Rattle.splice.specs.Splice.{roomAnswer, ifDone}
-use Rattle.enter.specs.Move.{Move, number, Within, entered, countAfter}
-use Rattle.write.specs.Plans.{Plans}
+use Rattle.enter.specs.Move.{Move, entries, number, Within, entered, countAfter}
+use Rattle.write.specs.Plans.{Splices, Plans, splices}
 use Rattle.store.proofs.Laws.{room-of}
 use Rattle.write.proofs.Layers.{plan-answer, plan-edited, plan-within}
 use Rattle.landing.proofs.Known.{Known}
 use Rattle.plan.proofs.Planned.{written}
+
+-- a splice that is one that leads from a layer to another
+pub planned : {c : ℕ} {L M : Layer} {p q : Splice} → p ≡ q → Splices c L M q → Plans c L M (entries p)
+planned {c} {L} {M} e P = splices (subst (Splices c L M) (sym e) P)
 
 -- what leads from a known layer to another keeps within it
 pub may-enter : {c m : ℕ} {raw K : List ℕ} {M : Layer} {p : Move} → Known c m raw K → Plans c (layerOf c m raw) M p

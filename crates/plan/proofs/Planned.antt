@@ -10,7 +10,7 @@ use lib.ListN.{length, getD, take, drop, replicate}
 use lib.Seq.{paste, take-at, take-length}
 use lib.Dec.{leb, ltb}
 use borrow.Author.Tests.{lt-ltb, le-leb}
-use Rattle.order.specs.Lists.{one, insert, without}
+use Rattle.order.specs.Lists.{one}
 use Rattle.order.proofs.Tests.{and-of}
 use Rattle.order.proofs.Pairs.{AllPairs}
 use Rattle.order.proofs.Ascending.{At, at-length, getD-at}
@@ -24,15 +24,14 @@ use Rattle.model.specs.Raw.{numbersOf, layerOf}
 use Rattle.words.specs.Entry.{ADD, STRIKE, addEntry, strikeEntry, changeEntry}
 use Rattle.model.specs.Fit.{keysBelow}
 use Rattle.model.specs.Read.{read}
-use Rattle.model.specs.Position.{base, added, back}
-use Rattle.model.specs.Edits.{before, addRow, strikeBase, strikeRow, changeBase, changeAddedRow, changeRowNo}
+use Rattle.model.specs.Position.{Origin, base, added, back}
+use Rattle.model.specs.Edits.{before, addRow, strikeOrigin, strikeRow, changeBase, changeAddedRow, changeRowNo}
 use Rattle.model.specs.Calls.{originAnswer}
 use Rattle.theory.proofs.Count.{read-length}
 use Rattle.theory.proofs.Column.{singles, singles-length}
 use Rattle.theory.proofs.Edits.{set-composed}
 use Rattle.theory.proofs.Origin.{Stands, back-row, origin-base, origin-added}
 use Rattle.theory.proofs.Readback.{sound-wide}
-use Rattle.splice.specs.declared.Splice.{Splice}
 use Rattle.store.specs.Numbers.{entryNumbers}
 use Rattle.enter.specs.Move.{Move, entries, number}
 use Rattle.write.specs.Plans.{Splices, Sets, Plans, splices, sets}
@@ -41,7 +40,7 @@ use Rattle.landing.specs.Landing.{aim, landing, changesFirst}
 use Rattle.landing.proofs.Landed.{landing-le, lands-after, lands-first}
 use Rattle.landing.proofs.Known.{Known}
 use Rattle.landing.proofs.Shown.{aim-add}
-use Rattle.plan.specs.Moves.{outOf, oneOf}
+use Rattle.plan.specs.Moves.{padded, addSplice, strikeSplice, oneOf}
 use Rattle.plan.proofs.Struck.{in-turn, strike-splice}
 use Rattle.plan.proofs.Changed.{aim-change, change-splice, first-there, first-change, value-set, change-at}
 
@@ -58,6 +57,16 @@ pub key-first : (row : Row) → getD row 0 0 ≡ key row
 unfolding key
 key-first row = refl
 
+-- the splice of an add, from its position, where it lands and its entry
+pub add-is : (K : List ℕ) (L : Layer) (row : Row) (p i : ℕ) → p ≡ keysBelow (key row) K
+    → i ≡ landing (aim p ADD (key row)) L
+    → (e : Entry) → e ≡ addEntry p (padded row) → record { i = i; gone = 0; comes = 1; entry = e } ≡ addSplice K L row
+add-is K L row p i ranks lands e f =
+    let j : i ≡ landing (aim (keysBelow (key row) K) ADD (key row)) L =
+    lands ∙ ap (λ (n : ℕ). landing (aim n ADD (key row)) L) ranks in
+    let g : e ≡ addEntry (keysBelow (key row) K) (padded row) = f ∙ ap (λ (n : ℕ). addEntry n (padded row)) ranks in
+    λ x. record { i = j x; gone = 0; comes = 1; entry = g x }
+
 module _ {c m : ℕ} {raw K : List ℕ} (N : Known c m raw K) where
   abbrev L : Layer
   L = layerOf c m raw
@@ -71,49 +80,62 @@ module _ {c m : ℕ} {raw K : List ℕ} (N : Known c m raw K) where
     wide = λ e k. sound-wide c (length K) (N .acc .held .some) e (N .acc .each e k);
   }
 
-  sorted : AllPairs before L
+  pub sorted : AllPairs before L
   sorted = N .good .fit .sorted
 
+  -- the numbers of an add's entry are those of the add
+  pub add-numbers : (p : ℕ) (row : Row) → length row ≡ c → entryNumbers c (addEntry p (padded row)) ≡ numbersOf c (at p (add row))
+  add-numbers p row l = ap (λ (t : List ℕ). p ∷ ADD ∷ t) (take-at row (replicate (8 - length row) 0) c l)
+
   -- add a row: no entry goes, and its add comes where it lands
-  pub add-plans : (row : Row) → length row ≡ c → (p i : ℕ) → p ≡ keysBelow (key row) K
-      → i ≡ landing (aim p ADD (key row)) L
-      → (e : Entry) → e ≡ addEntry p (row ++ replicate (8 - length row) 0)
-      → Splices c L (addRow K row L) (record { i = i; gone = 0; comes = 1; entry = e })
+  pub add-splices : (row : Row) → length row ≡ c → Splices c L (addRow K row L) (addSplice K L row)
   unfolding addRow
-  add-plans row l p i ranks lands e f =
+  add-splices row l =
+      let p = keysBelow (key row) K in
       let x = aim p ADD (key row) in
+      let i = landing x L in
       let same : (d : Edit) → before d (at p (add row)) ≡ before d x = λ d. sym (aim-add d p (key row) row refl) in
       record {
         edit = at p (add row);
         few = omega arith;
-        within = omega (arith, lands, landing-le x L);
+        within = omega (arith, landing-le x L);
         leads =
-            ap (λ (n : ℕ). insert before (at n (add row)) L) (sym ranks)
-            ∙ (insert-at before (at p (add row)) i L (λ d n. same d ∙ lands-after x L i lands d n)
-            (λ d n. same d ∙ lands-first x L i lands sorted d n)
-            ∙ ap (λ (n : ℕ). take i L ++ (at p (add row) ∷ drop n L)) (sym (add-zero i)));
-        numbers =
-            ap (entryNumbers c) f ∙ ap (λ (t : List ℕ). p ∷ ADD ∷ t) (take-at row (replicate (8 - length row) 0) c l);
+            insert-at before (at p (add row)) i L (λ d n. same d ∙ lands-after x L i refl d n)
+            (λ d n. same d ∙ lands-first x L i refl sorted d n)
+            ∙ ap (λ (n : ℕ). take i L ++ (at p (add row) ∷ drop n L)) (sym (add-zero i));
+        numbers = add-numbers p row l;
         wide = omega (arith, l);
       }
 
-  strike-wide : (s k : ℕ) → length (numbersOf c (at s (strike k))) ≡ c + 2
-  strike-wide s k = sound-wide c (suc s) (N .acc .held .some) (at s (strike k)) (lt-ltb s (suc s) (omega arith))
+  -- a strike's entry has the numbers of the strike, c + 2 of them
+  pub struck-numbers : (s k : ℕ) → entryNumbers c (strikeEntry s k) ≡ numbersOf c (at s (strike k))
+  struck-numbers s k = strike-numbers c s k (N .acc .held .some) (N .acc .held .columns)
 
-  -- strike a base row: its changes go, from where the strike lands up to the first entry past the row, and it comes
-  pub strike-plans : (s i end : ℕ) → struck s L ≡ false → i ≡ landing (aim s STRIKE 0) L
-      → end ≡ landing (aim (s + 1) ADD 0) L
-      → (e : Entry) → e ≡ strikeEntry s (getD K s 0)
-      → Splices c L (strikeBase K s L) (record { i = i; gone = end - i; comes = 1; entry = e })
-  strike-plans s i end u p q e f =
-      let h = N .acc .held in
+  pub struck-wide : (s k : ℕ) → length (numbersOf c (at s (strike k))) ≡ c + 2
+  struck-wide s k = sound-wide c (suc s) (N .acc .held .some) (at s (strike k)) (lt-ltb s (suc s) (omega arith))
+
+  -- strike what stands there: a base row's changes go, from where the strike lands up to the first entry past the row, and it
+  -- comes; an added row's entry goes
+  unfoldable pub strike-from : (o : Origin) → Stands (length K) L o → Splices c L (strikeOrigin K L o) (strikeSplice K L o)
+  strike-from (base s) w =
+      let i = landing (aim s STRIKE 0) L in
+      let end = landing (aim (s + 1) ADD 0) L in
       record {
         edit = at s (strike (getD K s 0));
         few = omega arith;
-        within = in-turn s L sorted i end p q .1;
-        leads = strike-splice s L sorted i end p q K u;
-        numbers = ap (entryNumbers c) f ∙ strike-numbers c s (getD K s 0) (h .some) (h .columns);
-        wide = strike-wide s (getD K s 0);
+        within = in-turn s L sorted i end refl refl .1;
+        leads = strike-splice s L sorted i end refl refl K (w .1);
+        numbers = struck-numbers s (getD K s 0);
+        wide = struck-wide s (getD K s 0);
+      }
+  strike-from (added i) w =
+      record {
+        edit = at 0 (strike 0);
+        few = omega arith;
+        within = omega (arith, at-length (w .2));
+        leads = without-at i L;
+        numbers = struck-numbers 0 0;
+        wide = struck-wide 0 0;
       }
 
   -- Change a cell of a base row, where i is where its change lands.
@@ -162,19 +184,6 @@ module _ {c m : ℕ} {raw K : List ℕ} (N : Known c m raw K) where
     change-plans true q e f = sets (change-stands (sym q))
     change-plans false q e f = splices (change-comes (sym q) e f)
 
-  -- strike an added row: its entry goes
-  pub out-plans : (i : ℕ) → i < length L → Splices c L (without i L) (outOf i)
-  out-plans i l =
-      let h = N .acc .held in
-      record {
-        edit = at 0 (strike 0);
-        few = omega arith;
-        within = omega arith;
-        leads = without-at i L;
-        numbers = strike-numbers c 0 0 (h .some) (h .columns);
-        wide = strike-wide 0 0;
-      }
-
   -- what stands behind a row number below the shown rows
   module _ (r : ℕ) (h : r < rowsAfter (length K) L) where
     pub stands : Stands (length K) L (back (length K) L r)
@@ -199,18 +208,6 @@ module _ {c m : ℕ} {raw K : List ℕ} (N : Known c m raw K) where
         let w = subst (Stands (length K) L) o stands in
         (o, w .0, w .1, w .2)
 
-    pub strike-of-base : (s : ℕ) → back (length K) L r ≡ base s → (p : Splice) → Splices c L (strikeBase K s L) p
-        → Splices c L (strikeRow K r L) p
-    unfolding strikeRow
-    strike-of-base s o p w = rw o w
-
-    pub strike-of-added : (i : ℕ) → originAnswer (back (length K) L r) ≡ backed.Added i
-        → Splices c L (strikeRow K r L) (outOf i)
-    unfolding strikeRow
-    strike-of-added i e =
-        let w = of-added i e in
-        rw (w .0) (out-plans i (omega (arith, at-length (w .3))))
-
     pub change-of-base : (j v s : ℕ) → back (length K) L r ≡ base s → (p : Move) → Plans c L (changeBase s j (to v) L) p
         → Plans c L (changeRowNo K r j (to v) L) p
     unfolding changeRowNo
@@ -231,3 +228,9 @@ module _ {c m : ℕ} {raw K : List ℕ} (N : Known c m raw K) where
           leads = change-at i j (to v) (at (w .1) (add (w .2))) L (w .3);
           numbers = rw t;
         }))
+
+  -- strike a row number below the shown rows
+  pub strike-splices : (r : ℕ) → r < rowsAfter (length K) L
+      → Splices c L (strikeRow K r L) (strikeSplice K L (back (length K) L r))
+  unfolding strikeRow
+  strike-splices r h = strike-from (back (length K) L r) (stands r h)

@@ -29,7 +29,7 @@ same-strike (at p (strike x)) s k l = refl
 same-strike (at p (change j f)) s k l = refl
 
 -- before the first add that may stand at s + 1: the edits at positions up to s
-up-to : (d : Edit) (s : ℕ) → before d (aim (s + 1) ADD 0) ≡ true → position d ≤ s
+pub up-to : (d : Edit) (s : ℕ) → before d (aim (s + 1) ADD 0) ≡ true → position d ≤ s
 unfolding key
 up-to (at p b) s h = ⊎-elim (λ l. omega arith) (λ w. absurd (none b (w .1))) (before-cases p (s + 1) b (add (0 ∷ [])) h)
   where
@@ -81,7 +81,7 @@ module _ (s k : ℕ) where
       cell (change j f) = ne-eqb s p (λ e. omega arith)
 
 -- what stands before one of two edits stands before the other
-land-mono : (e f : Edit) → ((d : Edit) → before d e ≡ true → before d f ≡ true) → (L : Layer)
+pub land-mono : (e f : Edit) → ((d : Edit) → before d e ≡ true → before d f ≡ true) → (L : Layer)
     → landing e L ≤ landing f L
 unfolding landing
 land-mono e f h [] = omega arith

@@ -5,24 +5,24 @@ use words::Back;
 use words::Entry;
 ghost use mathlib.Core.Path.{_≡_};
 ghost use mathlib.Core.Bool.{false};
-ghost use mathlib.Core.List.{_++_};
-ghost use Prim.Native.Nat.{_-_, _≤_, _<_};
-ghost use lib.ListN.{length, replicate};
+ghost use Prim.Native.Nat.{_≤_, _<_};
+ghost use lib.ListN.{length};
 ghost use Rattle.model.specs.Row.{key};
 ghost use Rattle.model.specs.Cell.{to};
 ghost use Rattle.model.specs.Layer.{struck, rowsAfter};
 ghost use Rattle.model.specs.Raw.{layerOf};
 ghost use Rattle.model.specs.Read.{keysAfter};
 ghost use Rattle.model.specs.Refusals.{shownKey};
-ghost use Rattle.model.specs.Edits.{addRow, strikeBase, strikeRow, changeBase, changeRowNo};
-ghost use Rattle.write.specs.Plans.{Splices, Plans};
+ghost use Rattle.model.specs.Position.{base, back};
+ghost use Rattle.model.specs.Edits.{changeBase, changeRowNo};
+ghost use Rattle.write.specs.Plans.{Plans};
 ghost use Rattle.fit.specs.Ready.{Ready};
-ghost use Rattle.plan.specs.Moves.{outOf, valueOf, moveOf};
+ghost use Rattle.plan.specs.Moves.{padded, addSplice, outOf, strikeSplice, valueOf, moveOf};
 
 // A row of at most eight values, with zeros behind it.
 fn eight(row: &[u64]) -> [u64; 8]
     requires { ⌜ length (now row) ≤ 8 ⌝ }
-    ensures { λ r. ⌜ r ≡ now (row .entry) ++ replicate (8 - length (now (row .entry))) 0 ⌝ }
+    ensures { λ r. ⌜ r ≡ padded (now (row .entry)) ⌝ }
 {
     let mut vals = [0u64; 8];
     run::copy_in(row, &mut vals, 0);
@@ -40,7 +40,7 @@ pub fn add(c: usize, m: usize, layer: &[u64], keys: &[u64], row: &[u64]) -> Addi
     requires { ⌜ Ready c m (now layer) (now keys) × (length (now row) ≡ c) ⌝ }
     ensures { λ r. ⌜ (let K = now (keys .entry) in let L = layerOf c m (now (layer .entry)) in
         (r .shown ≡ shownKey (key (now (row .entry))) (keysAfter K L))
-        × Splices c L (addRow K (now (row .entry)) L) (r .splice)) ⌝ }
+        × (r .splice ≡ addSplice K L (now (row .entry)))) ⌝ }
 {
     let k = row[0];
     let p = keys::below(k, keys);
@@ -58,7 +58,7 @@ pub fn add(c: usize, m: usize, layer: &[u64], keys: &[u64], row: &[u64]) -> Addi
 }
 
 // Entry number i goes, and none comes.
-fn out(i: usize) -> Splice
+pub fn out(i: usize) -> Splice
     ensures { λ p. ⌜ p ≡ outOf i ⌝ }
 {
     let entry = Entry::strike(0, 0);
@@ -71,10 +71,10 @@ fn out(i: usize) -> Splice
 }
 
 // Strikes base row s, which is shown: its changes go, and a strike with its key comes.
-fn strike_base(c: usize, m: usize, layer: &[u64], keys: &[u64], s: usize) -> Splice
+pub fn strike_base(c: usize, m: usize, layer: &[u64], keys: &[u64], s: usize) -> Splice
     requires { ⌜ Ready c m (now layer) (now keys) × (s < length (now keys))
         × (struck s (layerOf c m (now layer)) ≡ false) ⌝ }
-    ensures { λ p. ⌜ (let L = layerOf c m (now (layer .entry)) in Splices c L (strikeBase (now (keys .entry)) s L) p) ⌝ }
+    ensures { λ p. ⌜ p ≡ strikeSplice (now (keys .entry)) (layerOf c m (now (layer .entry))) (base s) ⌝ }
 {
     let p = s as u64;
     let i = landing::landing(c, m, layer, p, Entry::STRIKE, 0);
@@ -92,7 +92,8 @@ fn strike_base(c: usize, m: usize, layer: &[u64], keys: &[u64], s: usize) -> Spl
 // Strikes row number r, which is shown: an added row's entry goes; a base row loses its changes and gains a strike.
 pub fn strike(c: usize, m: usize, layer: &[u64], keys: &[u64], r: usize) -> Splice
     requires { ⌜ Ready c m (now layer) (now keys) × (r < rowsAfter (length (now keys)) (layerOf c m (now layer))) ⌝ }
-    ensures { λ p. ⌜ (let L = layerOf c m (now (layer .entry)) in Splices c L (strikeRow (now (keys .entry)) r L) p) ⌝ }
+    ensures { λ p. ⌜ (let K = now (keys .entry) in let L = layerOf c m (now (layer .entry)) in
+        p ≡ strikeSplice K L (back (length K) L r)) ⌝ }
 {
     let o = mark::origin_of(c, keys.len(), m, layer, r);
     match o {

@@ -3,7 +3,7 @@
 use Prim.Native.Nat.{ℕ, _≤_, _<_}
 use native.Mathlib.Omega.{arith}
 use mathlib.Core.Path.{_≡_, refl, sym, ap, _∙_}
-use mathlib.Core.Bool.{Bool, true, false}
+use mathlib.Core.Bool.{true, false}
 use mathlib.Core.List.{List, [], _∷_}
 use lib.ListN.{length}
 use Rattle.order.proofs.Tests.{impossible}
@@ -15,10 +15,8 @@ use Rattle.model.specs.Row.{Table, keys, column}
 use Rattle.model.specs.Layer.{Layer}
 use Rattle.model.specs.Raw.{layerOf, flat}
 use Rattle.model.specs.Read.{read}
-use Rattle.model.specs.Conflict.{conflict}
 use Rattle.model.specs.Demand.{Conflicting}
 use Rattle.model.specs.Move.{move}
-use Rattle.model.specs.Past.{Past}
 use Rattle.model.specs.Refusals.{Test, refuse, firstMet}
 use Rattle.model.specs.Calls.{edited, written, movedLayer, shownColumn, moveRows, moveAnswer}
 use Rattle.model.specs.Steps.{Step, stepOn}
@@ -26,17 +24,17 @@ use Rattle.theory.proofs.Fit.{Good}
 use Rattle.theory.proofs.Column.{Wide, column-read, read-wide}
 use Rattle.theory.proofs.Demand3.{demand3}
 use Rattle.theory.proofs.Stages.{stage-refuses, stage-passed}
-use Rattle.edit.specs.Runs.{Allows, stepAnswer}
+use Rattle.edit.specs.Runs.{Allows, Lent, stepAnswer}
 use Rattle.edit.proofs.Accepting.{Accepts, accepts}
 use Rattle.edit.proofs.Laws.{edit-layer}
 use Rattle.pass.specs.Outcome.{Outcome as Moved}
 use Rattle.pair.specs.Pair.{pairForm, pairRows}
 use Rattle.pass.proofs.Sides.{good-side}
 use Rattle.pass.proofs.Moving.{Moves, moves}
-use Rattle.demand.specs.Promises.{PassesFour, MovedPast}
+use Rattle.demand.specs.Promises.{MovedPast}
 use Rattle.demand.proofs.Promises.{tested, moved-past, eight-exactly}
-use Rattle.joined.specs.Promises.{Combined, ColumnReads}
-use Rattle.joined.proofs.Promises.{left, column-reads}
+use Rattle.joined.specs.Promises.{Combined}
+use Rattle.joined.proofs.Promises.{left}
 use Rattle.question.specs.Typed.{Reached}
 use Rattle.question.proofs.Typed.{reached}
 
@@ -60,7 +58,7 @@ by-move c K mx xs my y z e =
 -- I typed x against the rows of my layer, which stands in `raw`; the call was accepted and left `new`, of k entries. Then the
 -- move past theirs, which stands in y, answered q and left x′.
 module _ (c : ℕ) (T : Table) (m : ℕ) (raw : List ℕ) (x : Step) (r : Answer) (new : List ℕ)
-    (typed : Allows c m raw (keys T) x r new) (k : ℕ) (done : r ≡ Done k)
+    (lent : Lent c T x) (typed : Allows c m raw T x r new) (k : ℕ) (done : r ≡ Done k)
     (my : ℕ) (y : List ℕ) (q : Answer) (x′ : List ℕ) (o : Moved c (keys T) k new my y q x′) where
   abbrev K : List ℕ
   K = keys T
@@ -69,21 +67,21 @@ module _ (c : ℕ) (T : Table) (m : ℕ) (raw : List ℕ) (x : Step) (r : Answer
   L = layerOf c m raw
 
   abbrev X : Layer
-  X = stepOn K x L
+  X = stepOn T x L
 
   abbrev Y : Layer
   Y = layerOf c my y
 
-  answered : stepAnswer c m raw K x ≡ Done k
+  answered : stepAnswer c m raw T x ≡ Done k
   answered = sym (typed .0) ∙ done
 
   A : Accepts c m raw T x k
-  A = accepts c m raw T x k answered
+  A = accepts c m raw T x k lent answered
 
   holds : layerOf c k new ≡ X
   holds =
       ap (layerOf c k) (typed .1 ∙ ap (λ (a : Answer). edited c m a X raw) answered)
-      ∙ edit-layer c m raw T x k answered
+      ∙ edit-layer c m raw T x k lent answered
 
   -- the move was accepted
   module _ (past : q ≡ Done k) where

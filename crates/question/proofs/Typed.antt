@@ -3,46 +3,39 @@
 use mathlib.Core.Path.{_≡_, refl, sym, ap, _∙_}
 use mathlib.Core.Logic.{inl}
 use mathlib.Core.Bool.{Bool, true, false, cond, true≢false}
-use mathlib.Core.List.{List, [], _∷_, List·Memᴰ as Mem}
+use mathlib.Core.List.{List, [], _∷_, List·Memᴰ as Mem, List·Memᴰ·head as here, List·Memᴰ·tail as next}
 use Prim.Native.Nat.{ℕ, _<_}
 use native.Mathlib.Omega.{arith}
 use lib.ListN.{length, getD}
 use lib.Dec.{eqb}
-use borrow.Author.Tests.{eq-eqb, ne-eqb}
+use borrow.Author.Tests.{eqb-false, eq-eqb, ne-eqb}
 use Rattle.order.specs.Lists.{any, ascending, inTurn}
 use Rattle.order.proofs.Tests.{impossible}
 use Rattle.order.proofs.Members.{any-mem, none-any, mem-insert}
 use Rattle.order.proofs.Ascending.{AscFrom, At, getD-at, of-asc}
-use Rattle.model.specs.Row.{Row, Table, key, keys}
-use Rattle.model.specs.Cell.{CellEdit, to, put}
-use Rattle.model.specs.Layer.{Deed, add, strike, change, Edit, at, Layer}
+use Rattle.model.specs.Row.{Row, Table, key, keys, withKey}
+use Rattle.model.specs.Cell.{to, put}
+use Rattle.model.specs.Layer.{Deed, add, strike, change, at, Layer}
 use Rattle.model.specs.Read.{read}
 use Rattle.model.specs.Conflict.{conflict}
 use Rattle.model.specs.Redo.{strikeKey}
-use Rattle.model.specs.Edits.{addRow, strikeRow, deedBefore}
+use Rattle.model.specs.Edits.{addRow, strikeRow, renumberRow, deedBefore}
 use Rattle.model.specs.Meaning.{Found, row, missing, lookup, meaning, given, strikeFound, changeFound}
-use Rattle.model.specs.Steps.{Step, adding, striking, changing, stepOn, keyAt, Allowed}
+use Rattle.model.specs.Steps.{Step, adding, striking, changing, renumbering, stepOn, keyAt, Allowed}
 use Rattle.theory.proofs.Fit.{Good, good-form, good-fits}
 use Rattle.theory.proofs.Column.{Wide}
 use Rattle.theory.proofs.Conflict.{apart, conflict-sym}
 use Rattle.theory.proofs.Move.{Beside}
 use Rattle.theory.proofs.Demand3.{Tested}
-use Rattle.theory.proofs.Edited.{add-good, add-reads, strike-good, strike-reads, change-good}
-use Rattle.theory.proofs.Joined.{addsRow, add-means, strike-means, change-means}
+use Rattle.theory.proofs.Edited.{add-good, strike-good, strike-reads, change-good}
+use Rattle.theory.proofs.Renumbered.{with-key, renumber-reads}
+use Rattle.theory.proofs.Joined.{addsRow, addDeeds, add-means, strike-means, change-means}
 use Rattle.theory.proofs.Meaning.{meaning-mem}
-use Rattle.theory.proofs.Lookup.{
-  one-layer,
-  given-added,
-  given-gone,
-  given-changed,
-  strikes-one,
-  strikes-missing,
-  added-once,
-}
+use Rattle.theory.proofs.Lookup.{one-layer, given-added, given-gone, given-changed, strikes-one, strikes-missing, added-once}
 use Rattle.theory.proofs.Redo.{lookup-strike, lookup-add}
 use Rattle.theory.proofs.Moved.{together}
-use Rattle.theory.proofs.Operator.{operators-question, mine-alone, theirs-alone}
-use Rattle.question.specs.Typed.{groupOf, Gone, nothing, theirs, Shows, Reached}
+use Rattle.theory.proofs.Operator.{operators-question, theirs-alone}
+use Rattle.question.specs.Typed.{groupsOf, Gone, nothing, theirs, Shows, Reached}
 use Rattle.question.proofs.Mine.{added-alone, my-change}
 
 -- the deed is a strike
@@ -173,23 +166,69 @@ module _ (c : ℕ) (T : Table) (L Y : Layer) (a : AscFrom key 0 T) (G : Good c T
   same : {A : Type 0} (g : ℕ) (x y : A) → cond (eqb g g) x y ≡ x
   same g x y = rw (eq-eqb g g refl)
 
-  -- for any other group the edited layer means what L does
-  means-other : (x : Step) → Allowed c x M → (h : ℕ) → (groupOf x M ≡ h → ⊥)
-      → meaning (keys T) (stepOn (keys T) x L) h ≡ meaning (keys T) L h
-  means-other (adding r) w h ne = add-means T L a (G .fit) h r ∙ other (key r) h _ _ ne
-  means-other (striking i) w h ne =
-      strike-means T L a (G .fit) h i (getD M i []) (seen i w) ∙ other (keyAt i M) h _ _ ne
-  means-other (changing i j e) w h ne =
-      change-means T L a (G .fit) h i (getD M i []) (seen i (w .0)) j e (w .1) ∙ other (keyAt i M) h _ _ ne
+  -- a row that gets another number than its own: the layer without it, and what that means with it
+  module _ (i g : ℕ) (w : Allowed c (renumbering i g) M) (ne : keyAt i M ≡ g → ⊥) where
+    abbrev out : Layer
+    out = strikeRow (keys T) i L
 
-  step-good : (x : Step) → Allowed c x M → Good c T (stepOn (keys T) x L)
+    abbrev moved : Row
+    moved = withKey g (getD M i [])
+
+    out-good : Good c T out
+    out-good = strike-good c T L a G i (getD M i []) (seen i (w .0))
+
+    new-key : key moved ≡ g
+    new-key = with-key g (getD M i []) (omega (arith, w .1, w .2))
+
+    moved-means : (h : ℕ) → meaning (keys T) (addRow (keys T) moved out) h
+        ≡ cond (eqb g h) (addDeeds moved (meaning (keys T) out h)) (meaning (keys T) out h)
+    moved-means h = rw new-key at (add-means T out a (out-good .fit) h moved)
+
+  -- for any other group the edited layer means what L does
+  means-other : (x : Step) → Allowed c x M → (h : ℕ) → (Mem h (groupsOf x M) → ⊥)
+      → meaning (keys T) (stepOn T x L) h ≡ meaning (keys T) L h
+  unfolding renumberRow
+  means-other (adding r) w h ne = add-means T L a (G .fit) h r ∙ other (key r) h _ _ (λ e. ne (here (sym e)))
+  means-other (striking i) w h ne =
+      strike-means T L a (G .fit) h i (getD M i []) (seen i w) ∙ other (keyAt i M) h _ _ (λ e. ne (here (sym e)))
+  means-other (changing i j e) w h ne =
+      change-means T L a (G .fit) h i (getD M i []) (seen i (w .0)) j e (w .1)
+      ∙ other (keyAt i M) h _ _ (λ e. ne (here (sym e)))
+  means-other (renumbering i g) w h ne = go (eqb (keyAt i M) g) refl
+    where
+      go : (t : Bool) → eqb (keyAt i M) g ≡ t → meaning (keys T) (renumberRow T i g L) h ≡ meaning (keys T) L h
+      go true e = rw e
+      go false e =
+          let away : Mem h (keyAt i M ∷ g ∷ []) → ⊥ = rw e at ne in
+          rw e (moved-means i g w (eqb-false (keyAt i M) g e) h
+          ∙ (other g h _ _ (λ f. away (next (here (sym f)))) ∙ (strike-means T L a (G .fit) h i (getD M i []) (seen i (w .0))
+          ∙ other (keyAt i M) h _ _ (λ f. away (here (sym f))))))
+
+  step-good : (x : Step) → Allowed c x M → Good c T (stepOn T x L)
   step-good (adding r) w = add-good c T L a G r (w .0) (w .1)
   step-good (striking i) w = strike-good c T L a G i (getD M i []) (seen i w)
   step-good (changing i j e) w = change-good c T L a G i (getD M i []) (seen i (w .0)) j e (w .1) (w .2)
+  step-good (renumbering i g) w = renumber-reads c T L a G i g (w .0) (w .1) (w .2) (w .3) .good
+
+  -- it is added under its new number, and under its old one nothing is shown
+  module _ (i g : ℕ) (w : Allowed c (renumbering i g) M) (ne : keyAt i M ≡ g → ⊥) where
+    there : Mem (add (moved i g w ne)) (meaning (keys T) (renumberRow T i g L) g)
+    unfolding renumberRow
+    there =
+        rw (ne-eqb (keyAt i M) g ne, moved-means i g w ne g, eq-eqb g g refl)
+        (mem-insert deedBefore (add (moved i g w ne)) (meaning (keys T) (out i g w ne) g) (add (moved i g w ne)) (inl refl))
+
+    left : lookup (keyAt i M) (read T (renumberRow T i g L)) ≡ missing
+    left =
+        let r = renumber-reads c T L a G i g (w .0) (w .1) (w .2) (w .3) .reads in
+        ap (lookup (keyAt i M)) r
+        ∙ (lookup-add (keyAt i M) (moved i g w ne) (strikeKey (keyAt i M) M)
+        ∙ (other (key (moved i g w ne)) (keyAt i M) _ _ (λ e. ne (sym e ∙ new-key i g w ne))
+        ∙ (lookup-strike (keyAt i M) (keyAt i M) M ∙ same (keyAt i M) missing (lookup (keyAt i M) M))))
 
   module _ (wide : Wide c T) where
-    shows : (x : Step) (w : Allowed c x M) → conflict (stepOn (keys T) x L) Y ≡ false
-        → Shows Y M (together T (stepOn (keys T) x L) Y) x
+    shows : (x : Step) (w : Allowed c x M) → conflict (stepOn T x L) Y ≡ false
+        → Shows Y M (together T (stepOn T x L) Y) x
     shows (adding r) w free =
         added-row (addRow (keys T) r L) (step-good (adding r) w) free (key r) r
         (rw (add-means T L a (G .fit) (key r) r, eq-eqb (key r) (key r) refl)
@@ -200,12 +239,16 @@ module _ (c : ℕ) (T : Table) (L Y : Layer) (a : AscFrom key 0 T) (G : Good c T
         ∙ (lookup-strike (keyAt i M) (keyAt i M) M ∙ same (keyAt i M) missing (lookup (keyAt i M) M)))
     shows (changing i j (to v)) w free =
         my-change c T L Y a wide G H i (getD M i []) (seen i (w .0)) j v (w .1) (w .2) free
+    shows (renumbering i g) w free = λ ne. (
+      added-row (renumberRow T i g L) (step-good (renumbering i g) w) free g (withKey g (getD M i [])) (there i g w ne),
+      struck-row (renumberRow T i g L) (step-good (renumbering i g) w) free (keyAt i M) (left i g w ne),
+    )
 
-    -- what I typed reached its own group, and no other
-    pub reached : (x : Step) → Allowed c x M → conflict (stepOn (keys T) x L) Y ≡ false
-        → Reached T L Y x (together T (stepOn (keys T) x L) Y)
+    -- what I typed reached its own groups, and no other
+    pub reached : (x : Step) → Allowed c x M → conflict (stepOn T x L) Y ≡ false
+        → Reached T L Y x (together T (stepOn T x L) Y)
     reached x w free = record {
       own = shows x w free;
-      others = λ h ne. by-mine (stepOn (keys T) x L) (step-good x w) free h
+      others = λ h ne. by-mine (stepOn T x L) (step-good x w) free h
           ∙ ap (λ (d : List Deed). given d (lookup h (read T Y))) (means-other x w h ne);
     }

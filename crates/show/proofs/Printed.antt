@@ -21,10 +21,10 @@ use Rattle.column.specs.Runs.{Readable}
 use Rattle.form.proofs.Accepted.{accepted}
 use Rattle.words.specs.declared.Refusal.{Refusal}
 use Rattle.base.specs.declared.Counts.{Counts}
-use Rattle.base.specs.Base.{Sheet, mostBase, columnOf}
+use Rattle.base.specs.Base.{Sheet, mostBase, columnOf, rowsOf, tableOf}
 use Rattle.text.specs.Text.{Wrote, header, rowText, tableText, columnsText, mostShown, front, firstText}
 use Rattle.show.proofs.Columns.{put-stands}
-use Rattle.show.specs.Shown.{rowsOf, tableOf, shownTable, ending}
+use Rattle.show.specs.Shown.{shownTable, ending}
 use Rattle.text.proofs.Writing.{wrote-then}
 
 -- the text of a table is that of its three columns

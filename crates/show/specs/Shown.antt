@@ -1,8 +1,7 @@
 -- The table that is printed at the end: the base rows read through the layer.
 use mathlib.Core.Path.{_≡_}
-use mathlib.Core.List.{List, [], _∷_, _++_}
+use mathlib.Core.List.{List, [], _++_}
 use Prim.Native.Nat.{ℕ}
-use lib.ListN.{take}
 use Rattle.words.specs.declared.Answer.{Answer}
 use Rattle.words.specs.declared.Answer.the-variants.{Done, Refused}
 use Rattle.model.specs.Row.{Table}
@@ -10,23 +9,8 @@ use Rattle.model.specs.Raw.{layerOf}
 use Rattle.model.specs.Read.{read}
 use Rattle.model.specs.Calls.{formAnswer}
 use Rattle.base.specs.declared.Counts.{Counts}
-use Rattle.base.specs.Base.{Sheet, columnOf}
+use Rattle.base.specs.Base.{Sheet, baseTable}
 use Rattle.text.specs.Text.{header, tableText}
-
--- three columns as rows
-unfoldable pub rowsOf : List ℕ → List ℕ → List ℕ → Table
-rowsOf [] S M = []
-rowsOf (g ∷ K) [] M = []
-rowsOf (g ∷ K) (s ∷ S) [] = []
-rowsOf (g ∷ K) (s ∷ S) (m ∷ M) = (g ∷ s ∷ m ∷ []) ∷ rowsOf K S M
-
--- the first n rows of a table whose columns stand end to end
-abbrev pub tableOf : ℕ → List ℕ → Table
-tableOf n table = rowsOf (take n (columnOf 0 table)) (take n (columnOf 1 table)) (take n (columnOf 2 table))
-
--- the base table that stands
-abbrev pub baseTable : Counts → Sheet → Table
-baseTable d x = rowsOf (take (d .rows) (x .keys)) (take (d .rows) (x .sources)) (take (d .rows) (x .masks))
 
 -- the base table read through the layer
 abbrev pub shownTable : Counts → Sheet → Table

@@ -7,8 +7,8 @@ ghost use lib.ListN.{length, take};
 ghost use Rattle.model.specs.Raw.{layerOf};
 ghost use Rattle.model.specs.Read.{read, readColumn};
 ghost use Rattle.text.specs.Text.{Wrote, textRoom, tableText, mostShown, front};
-ghost use Rattle.base.specs.Base.{mostBase, columnOf, sheetOf};
-ghost use Rattle.show.specs.Shown.{Formed, tableOf, ending};
+ghost use Rattle.base.specs.Base.{mostBase, columnOf, sheetOf, tableOf};
+ghost use Rattle.show.specs.Shown.{Formed, ending};
 
 // Reads column j of the n base rows to its place in the work buffer; the layer keeps form and shows so many rows.
 fn read_column(

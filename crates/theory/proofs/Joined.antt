@@ -150,7 +150,7 @@ all-go : (ds : List Deed) → filter (λ d. false) ds ≡ []
 all-go [] = refl
 all-go (d ∷ ds) = all-go ds
 
-all-stay : (ds : List Deed) → ((d : Deed) → Mem d ds → addsRow d ≡ false) → ds ≡ filter (λ d. not (addsRow d)) ds
+pub all-stay : (ds : List Deed) → ((d : Deed) → Mem d ds → addsRow d ≡ false) → ds ≡ filter (λ d. not (addsRow d)) ds
 all-stay [] h = refl
 all-stay (d ∷ ds) h = rw (h d (here refl)) (ap (λ (t : List Deed). d ∷ t) (all-stay ds (λ x m. h x (next m))))
 

@@ -22,8 +22,10 @@ pub mod Column
 pub mod Joined
 pub mod Deeds
 pub mod Edited
+pub mod Renumbered
 pub mod Steps
 pub mod Canonical
 pub mod Operator
 pub mod Combine
 pub mod Same
+pub mod Columnwise

@@ -1,7 +1,7 @@
 -- A layer's slice with entries replaced is the new layer, zeros where entries were freed, then what stood there before.
 -- Assumes nothing.
 use Prim.Native.Nat.{ℕ, zero, suc, _+_, _*_, _-_, _≤_, _<_, max}
-use native.Mathlib.Nat.{zero-add, suc-add, zero-mul, suc-mul, add-mul, mul-le-mul-right}
+use native.Mathlib.Nat.{zero-add, suc-add, zero-mul, suc-mul, mul-le-mul-right}
 use native.Mathlib.Omega.{arith}
 use mathlib.Core.Path.{_≡_, refl, sym, ap, _∙_}
 use mathlib.Core.List.{
@@ -14,6 +14,7 @@ use mathlib.Core.List.{
   List·Memᴰ as Mem,
   List·Memᴰ·head as here,
   List·Memᴰ·tail as next,
+  List·Memᴰ·not-nil as not-nil,
 }
 use lib.ListN.{
   length,
@@ -25,8 +26,9 @@ use lib.ListN.{
   length-drop,
   length-set,
   take-append-drop,
+  drop-of-length-le,
 }
-use lib.Seq.{length-take-le, take-at, drop-at, take-take, set-append-left}
+use lib.Seq.{length-take-le, take-all, take-at, drop-at, take-take, set-append-left}
 use Rattle.order.proofs.Ascending.{At, at-length, at-mem}
 use Rattle.order.proofs.Edited.{at-head, at-tail, at-none}
 use Rattle.order.proofs.Splice.{take-mem, drop-mem, part}
@@ -42,18 +44,21 @@ pub use Rattle.theory.proofs.Readback.{sound-wide}
 use Rattle.splice.specs.declared.Splice.{Splice}
 use Rattle.enter.specs.declared.Value.{Value}
 use Rattle.store.specs.Numbers.{entryNumbers, coming}
-use Rattle.store.proofs.Laws.{coming-length}
 use Rattle.splice.specs.Splice.{
   between,
   begins,
   fresh,
   resumes,
   laid,
+  splicedTwo,
+  BothWithin,
+  countTwo,
   roomAnswer,
   ifDone,
 }
-use Rattle.enter.specs.Move.{spliced, numberAt, Move, entries, number, Within, entered, countAfter}
-use Rattle.write.specs.Plans.{Splices, Sets, Plans, splices, sets, OneSplice}
+use Rattle.enter.specs.Move.{noneAt, numberAt, Move, Within, entered, countAfter}
+use Rattle.enter.proofs.Laws.{two-none}
+use Rattle.write.specs.Plans.{Splices, BothSplice, Sets, Plans, splices, pairs, sets, OneRun, OneSplice}
 use Rattle.splice.proofs.Laws.{sub-mul, max-mul}
 
 -- the new entry's numbers are those of its edit
@@ -98,19 +103,25 @@ flat-length c (e ∷ L) w =
       suc-mul (length L) (c + 2),
     )
 
+-- two layers behind each other whose edits have c + 2 numbers each
+wide-append : (c : ℕ) (L M : Layer) → Wide c L → Wide c M → Wide c (L ++ M)
+wide-append c [] M w v e m = v e m
+wide-append c (x ∷ L) M w v e (here f) = w e (here f)
+wide-append c (x ∷ L) M w v e (next m) = wide-append c L M (λ d k. w d (next k)) v e m
+
 -- edit i, and the layer as what stands before it, itself, and what stands behind it
 pub at-split : (i : ℕ) (d : Edit) (L : Layer) → At d i 0 L → L ≡ take i L ++ (d ∷ drop (i + 1) L)
 at-split i d [] a = absurd (at-none a)
 at-split zero d (x ∷ L) a = ap (λ (y : Edit). y ∷ L) (sym (at-head a))
 at-split (suc i) d (x ∷ L) a = rw suc-add (ap (λ (t : Layer). x ∷ t) (at-split i d L (at-tail a)))
 
--- what leads from one layer to another is one splice of its edits
+-- what leads from one layer to another by one splice or by one value takes out one run of edits, and at most one comes
 comes-few : {A : Type 0} (x : A) (k : ℕ) → k ≤ 1 → length (coming k (x ∷ [])) ≡ k
 comes-few x zero h = refl
 comes-few x (suc k) h = omega arith
 
-pub plan-splice : {c : ℕ} {L M : Layer} {p : Move} → Plans c L M p → OneSplice L M
-plan-splice (splices {p} P) = record {
+pub plan-splice : {c : ℕ} {L M : Layer} {p : Move} → Plans c L M p → OneRun p → OneSplice L M
+plan-splice (splices {p} P) o = record {
   i = p .i;
   gone = p .gone;
   new = coming (p .comes) (P .edit ∷ []);
@@ -118,7 +129,8 @@ plan-splice (splices {p} P) = record {
   within = P .within;
   leads = P .leads;
 }
-plan-splice (sets {x} P) = record {
+plan-splice (pairs P) o = absurd o
+plan-splice (sets {x} P) o = record {
   i = x .i;
   gone = 1;
   new = P .new ∷ [];
@@ -128,7 +140,7 @@ plan-splice (sets {x} P) = record {
 }
 
 -- numbers laid where those of m entries stood, if they are those of a layer; if they are as many
-laid-edited : (c m x : ℕ) (M : Layer) (raw : List ℕ) → length (flat c M) ≡ length M * (c + 2)
+pub laid-edited : (c m x : ℕ) (M : Layer) (raw : List ℕ) → length (flat c M) ≡ length M * (c + 2)
     → laid (flat c M) (m * (c + 2)) raw ≡ edited c m (Done x) M raw
 unfolding laid
 laid-edited c m x M raw l = rw (l, ← sub-mul m (length M) (c + 2), max-mul m (length M) (c + 2))
@@ -151,6 +163,42 @@ pub record Written (c m : ℕ) (raw : List ℕ) (L : Layer) : Type 0 where
   pub room : m * (c + 2) ≤ length raw
   pub wide : Wide c L
 
+-- What comes by a splice is these edits, each of c + 2 numbers.
+record Brings (c : ℕ) (p : Splice) (N : Layer) : Type 0 where
+  numbers : fresh c p ≡ flat c N
+  size : length N ≡ p .comes
+  wide : Wide c N
+
+-- one that comes has the numbers of its edit; where none comes, there is none
+brings : (c : ℕ) (p : Splice) (d : Edit) → entryNumbers c (p .entry) ≡ numbersOf c d → length (numbersOf c d) ≡ c + 2
+    → p .comes ≤ 1 → Brings c p (coming (p .comes) (d ∷ []))
+unfolding flat
+brings c p d n w h =
+    record { numbers = comes-numbers (p .comes); size = comes-few d (p .comes) h; wide = comes-wide (p .comes) }
+  where
+    comes-numbers : (k : ℕ) → coming k (entryNumbers c (p .entry)) ≡ flat c (coming k (d ∷ []))
+    comes-numbers zero = refl
+    comes-numbers (suc k) = n ∙ sym (append-nil (numbersOf c d))
+
+    comes-wide : (k : ℕ) → Wide c (coming k (d ∷ []))
+    comes-wide zero e m = absurd (not-nil m)
+    comes-wide (suc k) e (here f) = ap (λ (x : Edit). length (numbersOf c x)) f ∙ w
+    comes-wide (suc k) e (next m) = absurd (not-nil m)
+
+brings-none : (c m : ℕ) → Brings c (noneAt m) []
+unfolding flat
+brings-none c m = record { numbers = refl; size = refl; wide = λ e k. absurd (not-nil k) }
+
+-- From L to M by two splices of m entries, the second behind the first.
+record Leads (c m : ℕ) (L M : Layer) (p q : Splice) : Type 0 where
+  new : Layer
+  new₂ : Layer
+  within : BothWithin m p q
+  leads : M ≡ take (p .i) L ++ (new ++ (take (q .i - (p .i + p .gone)) (drop (p .i + p .gone) L)
+      ++ (new₂ ++ drop (q .i + q .gone) L)))
+  brings : Brings c p new
+  brings₂ : Brings c q new₂
+
 module _ (c m : ℕ) (raw : List ℕ) (L : Layer) (W : Written c m raw L) where
   split : (i : ℕ) → flat c (take i L) ++ flat c (drop i L) ≡ take (m * (c + 2)) raw
   split i = sym (flat-append c (take i L) (drop i L)) ∙ (ap (flat c) (take-append-drop i L) ∙ W .numbers)
@@ -160,88 +208,119 @@ module _ (c m : ℕ) (raw : List ℕ) (L : Layer) (W : Written c m raw L) where
       flat-length c (take i L) (λ e k. W .wide e (take-mem i L e k))
       ∙ ap (λ (n : ℕ). n * (c + 2)) (length-take-le i L (omega (arith, W .size)))
 
-  -- the numbers of the first i entries, and of those from number i on
+  -- the numbers of the first i entries, and of those from number i up to number j
   front : (i : ℕ) → i ≤ m → take (i * (c + 2)) raw ≡ flat c (take i L)
   front i h =
       sym (take-take (i * (c + 2)) (m * (c + 2)) raw (mul-le-mul-right {m = i} (c + 2) h))
       ∙ (ap (take (i * (c + 2))) (sym (split i)) ∙ take-at (flat c (take i L)) (flat c (drop i L)) (i * (c + 2))
       (front-length i h))
 
-  back : (i : ℕ) → i ≤ m → take (m * (c + 2) - i * (c + 2)) (drop (i * (c + 2)) raw) ≡ flat c (drop i L)
-  back i h =
-      part (i * (c + 2)) (m * (c + 2)) raw
-      ∙ (ap (drop (i * (c + 2))) (sym (split i)) ∙ drop-at (flat c (take i L)) (flat c (drop i L)) (i * (c + 2))
-      (front-length i h))
+  middle : (i j : ℕ) → i ≤ j → j ≤ m → between (i * (c + 2)) (j * (c + 2)) raw ≡ flat c (take (j - i) (drop i L))
+  middle i j g h =
+      let T = take j L in
+      let t : take i T ≡ take i L = take-take i j L g in
+      part (i * (c + 2)) (j * (c + 2)) raw
+      ∙ (ap (drop (i * (c + 2))) (front j h ∙ (ap (flat c) (sym (take-append-drop i T)) ∙ flat-append c (take i T) (drop i T)))
+      ∙ (drop-at (flat c (take i T)) (flat c (drop i T)) (i * (c + 2))
+      (ap (λ (u : Layer). length (flat c u)) t ∙ front-length i (omega arith)) ∙ ap (flat c) (sym (part i j L))))
 
-  -- A splice that leads from the layer to M: in numbers it is M, and it leaves M's entries.
-  module _ {M : Layer} {p : Splice} (P : Splices c L M p) where
-    abbrev N : Layer
-    N = coming (p .comes) (P .edit ∷ [])
+  -- all of them from number i on
+  rest : (i : ℕ) → take (m - i) (drop i L) ≡ drop i L
+  rest i = take-all (m - i) (drop i L) (omega (arith, length-drop i L, W .size))
 
-    inside : p .i + p .gone ≤ m
-    inside = omega (arith, P .within, W .size)
+  back : (i : ℕ) → i ≤ m → between (i * (c + 2)) (m * (c + 2)) raw ≡ flat c (drop i L)
+  back i h = middle i m h (omega arith) ∙ ap (flat c) (rest i)
 
-    comes-numbers : (k : ℕ) → coming k (entryNumbers c (p .entry)) ≡ flat c (coming k (P .edit ∷ []))
-    unfolding flat
-    comes-numbers zero = refl
-    comes-numbers (suc k) = P .numbers ∙ sym (append-nil (numbersOf c (P .edit)))
+  -- Two splices that lead from the layer to M: in numbers it is M, and they leave M's entries.
+  module _ {M : Layer} {p q : Splice} (P : Leads c m L M p q) where
+    abbrev stays : Layer
+    stays = take (q .i - (p .i + p .gone)) (drop (p .i + p .gone) L)
 
-    comes-flat : (k : ℕ) → k ≤ 1 → length (flat c (coming k (P .edit ∷ []))) ≡ k * (c + 2)
-    comes-flat k h =
-        sym (ap length (comes-numbers k)) ∙ coming-length (c + 2) k (entryNumbers c (p .entry)) h
-        (ap length (P .numbers) ∙ P .wide)
+    abbrev end : Layer
+    end = drop (q .i + q .gone) L
 
-    leads-numbers : take (begins c p) raw ++ (fresh c p ++ between (resumes c p) (m * (c + 2)) raw) ≡ flat c M
+    leads-numbers : take (begins c p) raw ++ (fresh c p ++ (between (resumes c p) (begins c q) raw
+        ++ (fresh c q ++ between (resumes c q) (m * (c + 2)) raw))) ≡ flat c M
     leads-numbers =
+        let B = P .within in
         rw (
           P .leads,
-          flat-append c (take (p .i) L) (N ++ drop (p .i + p .gone) L),
-          flat-append c N (drop (p .i + p .gone) L),
-          comes-numbers (p .comes),
-          front (p .i) (omega (arith, inside)),
-          back (p .i + p .gone) inside,
+          flat-append c (take (p .i) L) (P .new ++ (stays ++ (P .new₂ ++ end))),
+          flat-append c (P .new) (stays ++ (P .new₂ ++ end)),
+          flat-append c stays (P .new₂ ++ end),
+          flat-append c (P .new₂) end,
+          P .brings .numbers,
+          P .brings₂ .numbers,
+          front (p .i) (omega (arith, B .first, B .second)),
+          middle (p .i + p .gone) (q .i) (B .first) (omega (arith, B .second)),
+          back (q .i + q .gone) (B .second),
         )
 
-    leads-count : m + p .comes - p .gone ≡ length M
+    leads-count : countTwo m p q ≡ length M
     leads-count =
+        let B = P .within in
         omega (
           arith,
           ap length (P .leads),
-          length-append (take (p .i) L) (N ++ drop (p .i + p .gone) L),
-          length-append N (drop (p .i + p .gone) L),
-          length-take-le (p .i) L (omega (arith, P .within)),
-          length-drop (p .i + p .gone) L,
-          comes-few (P .edit) (p .comes) (P .few),
-          P .within,
+          length-append (take (p .i) L) (P .new ++ (stays ++ (P .new₂ ++ end))),
+          length-append (P .new) (stays ++ (P .new₂ ++ end)),
+          length-append stays (P .new₂ ++ end),
+          length-append (P .new₂) end,
+          length-take-le (p .i) L (omega (arith, B .first, B .second, W .size)),
+          length-take-le (q .i - (p .i + p .gone)) (drop (p .i + p .gone) L)
+              (omega (arith, length-drop (p .i + p .gone) L, B .first, B .second, W .size)),
+          length-drop (q .i + q .gone) L,
+          P .brings .size,
+          P .brings₂ .size,
+          B .first,
+          B .second,
           W .size,
         )
 
-    back-length : length (flat c (drop (p .i + p .gone) L)) ≡ (m - (p .i + p .gone)) * (c + 2)
-    back-length =
-        flat-length c (drop (p .i + p .gone) L) (λ e k. W .wide e (drop-mem (p .i + p .gone) L e k))
-        ∙ ap (λ (n : ℕ). n * (c + 2)) (length-drop (p .i + p .gone) L ∙ ap (λ (n : ℕ). n - (p .i + p .gone)) (W .size))
+    leads-wide : Wide c M
+    leads-wide =
+        let r = p .i + p .gone in
+        let kept : Wide c stays = λ e k. W .wide e (drop-mem r L e (take-mem (q .i - r) (drop r L) e k)) in
+        let tail : Wide c (P .new₂ ++ end) =
+        wide-append c (P .new₂) end (P .brings₂ .wide) (λ e k. W .wide e (drop-mem (q .i + q .gone) L e k)) in
+        rw (P .leads) (wide-append c (take (p .i) L) (P .new ++ (stays ++ (P .new₂ ++ end)))
+        (λ e k. W .wide e (take-mem (p .i) L e k))
+        (wide-append c (P .new) (stays ++ (P .new₂ ++ end)) (P .brings .wide) (wide-append c stays (P .new₂ ++ end) kept tail)))
 
-    leads-length : length (flat c M) ≡ length M * (c + 2)
-    leads-length =
-        let n : length M ≡ p .i + p .comes + (m - (p .i + p .gone)) = omega (arith, leads-count, inside) in
-        omega (
-          arith,
-          ap (λ (t : Layer). length (flat c t)) (P .leads),
-          ap length (flat-append c (take (p .i) L) (N ++ drop (p .i + p .gone) L)),
-          length-append (flat c (take (p .i) L)) (flat c (N ++ drop (p .i + p .gone) L)),
-          ap length (flat-append c N (drop (p .i + p .gone) L)),
-          length-append (flat c N) (flat c (drop (p .i + p .gone) L)),
-          front-length (p .i) (omega (arith, inside)),
-          comes-flat (p .comes) (P .few),
-          back-length,
-          ap (λ (k : ℕ). k * (c + 2)) n,
-          add-mul (p .i + p .comes) (m - (p .i + p .gone)) (c + 2),
-          add-mul (p .i) (p .comes) (c + 2),
-        )
+    leads-edited : (x : ℕ) → splicedTwo c m p q raw ≡ edited c m (Done x) M raw
+    unfolding splicedTwo
+    leads-edited x =
+        ap (λ (t : List ℕ). laid t (m * (c + 2)) raw) leads-numbers ∙ laid-edited c m x M raw (flat-length c M leads-wide)
 
-    spliced-edited : (x : ℕ) → spliced c m p raw ≡ edited c m (Done x) M raw
-    unfolding spliced
-    spliced-edited x = ap (λ (t : List ℕ). laid t (m * (c + 2)) raw) leads-numbers ∙ laid-edited c m x M raw leads-length
+  -- one splice leads to M as two of which the second, behind all entries, is none
+  one-leads : {M : Layer} {p : Splice} → Splices c L M p → Leads c m L M p (noneAt m)
+  one-leads {M} {p} P =
+      let r = p .i + p .gone in
+      let none : drop (m + 0) L ≡ [] = drop-of-length-le L {i = m + 0} (omega (arith, W .size)) in
+      record {
+        new = coming (p .comes) (P .edit ∷ []);
+        new₂ = [];
+        within = record {
+          first = omega (arith, P .within, W .size);
+          second = omega arith;
+          few = P .few;
+          few₂ = omega arith;
+        };
+        leads = rw (none, rest r, append-nil (drop r L)) (P .leads);
+        brings = brings c p (P .edit) (P .numbers) (P .wide) (P .few);
+        brings₂ = brings-none c m;
+      }
+
+  -- so do two splices, each of which brings its own edit
+  two-leads : {M : Layer} {p q : Splice} → BothSplice c L M p q → Leads c m L M p q
+  two-leads {M} {p} {q} P = record {
+    new = coming (p .comes) (P .edit ∷ []);
+    new₂ = coming (q .comes) (P .edit₂ ∷ []);
+    within = rw (W .size) at (P .within);
+    leads = P .leads;
+    brings = brings c p (P .edit) (P .numbers) (P .wide) (P .within .few);
+    brings₂ = brings c q (P .edit₂) (P .numbers₂) (P .wide₂) (P .within .few₂);
+  }
 
   -- A value that leads from the layer to M: in numbers it is M, which has as many entries.
   module _ {M : Layer} {x : Value} (P : Sets c L M x) where
@@ -309,7 +388,8 @@ module _ (c m : ℕ) (raw : List ℕ) (L : Layer) (W : Written c m raw L) where
 
   -- What leads from the layer to M answers what is left of a call for M, and leaves M in the slice.
   pub plan-count : {M : Layer} {p : Move} → Plans c L M p → countAfter m p ≡ length M
-  plan-count (splices P) = leads-count P
+  plan-count (splices P) = omega (arith, leads-count (one-leads P))
+  plan-count (pairs P) = leads-count (two-leads P)
   plan-count (sets P) = sym (set-count P)
 
   pub plan-answer : {M : Layer} {p : Move} → Plans c L M p
@@ -317,7 +397,8 @@ module _ (c m : ℕ) (raw : List ℕ) (L : Layer) (W : Written c m raw L) where
   plan-answer P = rw (plan-count P)
 
   pub plan-done : {M : Layer} {p : Move} → Plans c L M p → (k : ℕ) → entered c m p raw ≡ edited c m (Done k) M raw
-  plan-done (splices P) k = spliced-edited P k
+  plan-done (splices {p} P) k = sym (two-none c m p raw) ∙ leads-edited (one-leads P) k
+  plan-done (pairs P) k = leads-edited (two-leads P) k
   plan-done (sets P) k = set-edited P k
 
   pub plan-edited : {M : Layer} {p : Move} → Plans c L M p → (r : Answer)
@@ -326,5 +407,6 @@ module _ (c m : ℕ) (raw : List ℕ) (L : Layer) (W : Written c m raw L) where
   plan-edited P (Refused x) = refl
 
   pub plan-within : {M : Layer} {p : Move} → Plans c L M p → Within c m p
-  plan-within (splices P) = (inside P, P .few)
+  plan-within (splices P) = (one-leads P .within .first, P .few)
+  plan-within (pairs P) = two-leads P .within
   plan-within (sets P) = (below P, P .column)

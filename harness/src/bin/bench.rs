@@ -125,10 +125,29 @@ fn padded(c: usize, layer: &[Entry]) -> Vec<u64> {
     raw
 }
 
-const CALLS: [&str; 11] = ["fit", "read", "view", "shift", "row", "back", "add", "strike", "change", "move", "combine"];
+const CALLS: [&str; 12] = ["fit", "read", "view", "shift", "row", "back", "add", "strike", "change", "renumber", "move", "combine"];
 
-/// The times of every call, of the archive and of plain C. An edit is of a layer of m - 1 entries where m is 512, so that it is accepted;
-/// an add is to a table of n - 1 rows; a combination is of two layers of m / 2 entries.
+/// A base row of no entries in the middle of a table that is lent whole, its row number, and a group number three quarters down the table:
+/// what a renumbering is timed with. The layer has m entries, and 510 where m is 512, so that it is accepted.
+struct Renumbering {
+    m: usize,
+    layer: Vec<u64>,
+    table: Vec<u64>,
+    r: usize,
+    g: u64,
+}
+
+fn renumbering(c: usize, n: usize, m: usize) -> Renumbering {
+    let (k, m) = (keys(n), m.min(510));
+    let layer = spread(c, &k, m, 0);
+    let quiet = (n / 2..n).find(|s| layer.iter().all(|e| e.pos != *s as u64)).unwrap();
+    let r = scope::origins(n, &layer).iter().position(|o| *o == scope::Origin::Base(quiet)).unwrap();
+    let table = (0..c as u64).flat_map(|j| k.iter().map(move |x| x + j)).collect();
+    Renumbering { m, layer: padded(c, &layer), table, r, g: k[3 * n / 4] + 3 }
+}
+
+/// The times of every call, of the archive and of plain C. An edit is of a layer of m - 1 entries where m is 512, so that it is accepted,
+/// and a renumbering of one of m - 2; an add is to a table of n - 1 rows; a combination is of two layers of m / 2 entries.
 fn all(clock: &Clock, c: usize, n: usize, m: usize) -> Vec<(f64, f64)> {
     let k = &keys(n)[..];
     let x = &padded(c, &spread(c, k, m, 0))[..];
@@ -147,6 +166,8 @@ fn all(clock: &Clock, c: usize, n: usize, m: usize) -> Vec<(f64, f64)> {
     let quiet = (n / 2..n).find(|s| spread(c, k, few, 0).iter().all(|e| e.pos != *s as u64)).unwrap();
     let r = CARD.row(c, n, few, l, quiet).1 as usize;
 
+    let to = renumbering(c, n, m);
+
     let lower = spread(c, k, m / 2, 0);
     let between = scope::column(&lower, k, 0);
     let upper = spread(c, &between, m / 2, 2);
@@ -163,12 +184,13 @@ fn all(clock: &Clock, c: usize, n: usize, m: usize) -> Vec<(f64, f64)> {
         clock.both(1, ls, true, |w, l| w.add(c, few, l, short, &row)),
         clock.both(1, l, true, |w, l| w.strike(c, few, l, k, r)),
         clock.both(1, l, true, |w, l| w.change(c, few, l, k, r, 1, 5)),
+        clock.both(1, &to.layer, true, |w, l| w.renumber(c, n, to.m, l, &to.table, to.r, to.g)),
         clock.both(1, x, true, |w, x| w.move_past(c, k, m, x, m, y)),
         clock.both(2, &third, false, |w, o| w.combine(c, k, m / 2, lo, m / 2, up, o)),
     ]
 }
 
-const EDITS: [&str; 4] = ["add", "strike", "change entered", "change replaced"];
+const EDITS: [&str; 5] = ["add", "strike", "change entered", "change replaced", "renumber"];
 
 /// The times of the edits on a layer that is in no cache, in its middle, otherwise as in `all`.
 fn slow(clock: &Clock, c: usize, n: usize, m: usize) -> Vec<(f64, f64)> {
@@ -183,12 +205,14 @@ fn slow(clock: &Clock, c: usize, n: usize, m: usize) -> Vec<(f64, f64)> {
     let quiet = (n / 2..n).find(|s| layer.iter().all(|e| e.pos != *s as u64)).unwrap();
     let r = CARD.row(c, n, few, l, quiet).1 as usize;
     let own = layer[few / 2..].iter().find(|e| e.is_change()).unwrap();
+    let to = renumbering(c, n, m);
     let (there, j) = (CARD.row(c, n, few, l, own.pos as usize).1 as usize, own.kind as usize);
     vec![
         clock.slow(ls, |w, l| w.add(c, few, l, short, &row)),
         clock.slow(l, |w, l| w.strike(c, few, l, k, r)),
         clock.slow(l, |w, l| w.change(c, few, l, k, r, 1, 5)),
         clock.slow(l, |w, l| w.change(c, few, l, k, there, j, 5)),
+        clock.slow(&to.layer, |w, l| w.renumber(c, n, to.m, l, &to.table, to.r, to.g)),
     ]
 }
 
@@ -274,7 +298,7 @@ fn main() {
         }
     }
     println!("\nEdits with the layer in slow memory, n = 4,096: before each timed call every line of the slice is flushed from the caches (clflush), for both alike,");
-    println!("so that the first load or store of a line goes to memory; the keys, the row and the code stay cached.\n");
+    println!("so that the first load or store of a line goes to memory; the keys or the table, the row and the code stay cached.\n");
     println!("| call | c | m = 16 | m = 64 | m = 512 |\n|---|---|---|---|---|");
     for c in [3, 8] {
         let at: Vec<_> = sizes[1..].iter().map(|m| slow(&clock, c, 4096, *m)).collect();

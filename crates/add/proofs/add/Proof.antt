@@ -10,12 +10,15 @@ use Rattle.model.specs.Row.{key}
 use Rattle.model.specs.Layer.{rowsAfter}
 use Rattle.model.specs.Raw.{layerOf}
 use Rattle.model.specs.Read.{keysAfter}
+use Rattle.model.specs.Edits.{addRow}
 use Rattle.model.specs.Refusals.{shownKey}
 use Rattle.model.specs.Calls.{readyAnswer, addAnswer}
 use Rattle.fit.proofs.Answers.{is-ready, rows-shown}
 use Rattle.landing.proofs.Known.{Known, known}
-use Rattle.write.specs.Plans.{splices}
-use Rattle.plan.proofs.Answers.{may-enter, enters, as-before, go-on}
+use Rattle.enter.specs.Move.{entries}
+use Rattle.write.specs.Plans.{Plans}
+use Rattle.plan.proofs.Planned.{add-splices}
+use Rattle.plan.proofs.Answers.{planned, may-enter, enters, as-before, go-on}
 use Rattle.add.proofs.Answers.{
   addRest,
   add-refuses,
@@ -99,6 +102,15 @@ free : (c : tie.Else2) →
     shownKey (key (a .row .now)) (keysAfter (a .keys .now) (layerOf (a .c) (a .m) (a .layer .now))) ≡ false
 free c = sym (c .before .add .ensures .0) ∙ c .if2 .left
 
+-- what the add does leads to the layer with the row
+plans : (c : tie.After-add) →
+    let a = c .before .before .before .before .before .before .before .before .before .before .before .args in
+    let L = layerOf (a .c) (a .m) (a .layer .now) in
+    Plans (a .c) L (addRow (a .keys .now) (a .row .now) L) (entries (c .add .result .splice))
+plans c =
+    let d = c .before .before .before in
+    planned (c .add .ensures .1) (add-splices (knows d) _ (wide (d .before .before)))
+
 room-of-requires : tie.Need-room-of-requires
 room-of-requires c κs = knows (c .before .before .before .before .before) .acc .held .columns
 
@@ -140,7 +152,7 @@ returns-4 c =
 enter-requires : tie.Need-enter-requires
 enter-requires c κs =
     let e = c .before .before .before .before in
-    may-enter (knows (e .before .before .before)) (splices (e .add .ensures .1))
+    may-enter (knows (e .before .before .before)) (plans e)
 
 same-length-4 : tie.Need-same-length-4
 same-length-4 c = search needs
@@ -166,7 +178,7 @@ returns-6 c =
     enters (a .c) (a .m) (a .layer .now) _ _ (knows d)
     (add-last (a .c) (a .m) (a .layer .now) (a .keys .now) (a .row .now) (knows d) (free f)
     (omega (arith, shown d, c .before .before .before .before .before .if3 .left)) ∙ rest d)
-    (splices (e .add .ensures .1)) _ _ (c .before .before .enter .ensures)
+    (plans e) _ _ (c .before .before .enter .ensures)
 
 pub add-spec : {M : Type 1} → statement M
 add-spec =

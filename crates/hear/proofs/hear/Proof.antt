@@ -33,6 +33,12 @@ enum-known-r-2 c = search needs
 change-row-requires : tie.Need-change-row-requires
 change-row-requires c κs = search needs
 
+enum-known-r-3 : tie.Need-enum-known-r-3
+enum-known-r-3 c = search needs
+
+renumber-row-requires : tie.Need-renumber-row-requires
+renumber-row-requires c κs = search needs
+
 enum-told : tie.Need-enum-told
 enum-told c = search needs
 
@@ -56,7 +62,11 @@ returns-4 c = heard-as (c .change-row .ensures)
     (sym (c .before .before .before .before .before .before .parse .ensures) ∙ c .before .before .before .before .r2 .given .1)
 
 returns-5 : tie.Need-returns-5
-returns-5 c = heard-as (heard-none (c .stay .ensures))
+returns-5 c = heard-as (c .renumber-row .ensures)
+    (sym (c .before .before .before .before .before .before .parse .ensures) ∙ c .before .before .before .before .r3 .given .1)
+
+returns-6 : tie.Need-returns-6
+returns-6 c = heard-as (heard-none (c .stay .ensures))
     (sym (c .before .before .before .parse .ensures) ∙ c .before .enum-told .given .1)
 
 pub hear-spec : {M : Type 1} → statement M
@@ -72,10 +82,13 @@ hear-spec =
     strike-row-requires
     enum-known-r-2
     change-row-requires
+    enum-known-r-3
+    renumber-row-requires
     enum-told
     stay-requires
     returns
     returns-2
     returns-3
     returns-4
-    returns-5)
+    returns-5
+    returns-6)

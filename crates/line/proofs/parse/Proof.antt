@@ -1,4 +1,4 @@
--- `line::parse` meets its contract: a sign, a space, and one number or three.
+-- `line::parse` meets its contract: a sign, a space, and one number, two or three.
 -- Assumes nothing.
 use native.Mathlib.Omega.{arith}
 use mathlib.Core.List.{[], _∷_}

@@ -12,7 +12,7 @@ use Rattle.model.specs.Read.{keysAfter}
 use Rattle.model.specs.Refusals.{shownKey}
 use Rattle.landing.specs.Landing.{aim, landing}
 use Rattle.landing.proofs.Known.{Known, known}
-use Rattle.plan.proofs.Planned.{key-first, add-plans}
+use Rattle.plan.proofs.Planned.{key-first, add-is}
 use Rattle.plan.proofs.add.Statement.{statement}
 use Rattle.plan.proofs.add.Tie as tie
 
@@ -55,7 +55,7 @@ returns c =
     let L = layerOf (a .c) (a .m) (a .layer .now) in (
       c .before .before .is-shown .ensures
           ∙ ap (λ (k : ℕ). shownKey k (keysAfter (a .keys .now) L)) (key-first (a .row .now)),
-      add-plans (knows b) (a .row .now) (b .pre .1) (d .below .result) (g .landing .result) (ranks d)
+      add-is (a .keys .now) L (a .row .now) (d .below .result) (g .landing .result) (ranks d)
           (g .landing .ensures ∙ ap (λ (k : ℕ). landing (aim (d .below .result) ADD k) L) (key-first (a .row .now)))
           (c .add .result) (c .add .ensures ∙ ap (addEntry (d .below .result)) (c .before .eight .ensures)),
     )

@@ -1,14 +1,15 @@
 -- Striking a row number: of the base row or of the added entry behind it.
 -- Assumes nothing.
 use borrow.Author.Needs.{needs}
-use mathlib.Core.Path.{_≡_, sym, _∙_}
+use mathlib.Core.Path.{_≡_, sym, ap, _∙_}
 use lib.ListN.{length}
 use Rattle.model.specs.Raw.{layerOf}
 use Rattle.model.specs.Position.{back}
 use Rattle.model.specs.Calls.{originAnswer}
 use Rattle.theory.proofs.Origin.{origin-never}
 use Rattle.landing.proofs.Known.{Known, known}
-use Rattle.plan.proofs.Planned.{of-base, strike-of-base, strike-of-added}
+use Rattle.plan.specs.Moves.{strikeSplice}
+use Rattle.plan.proofs.Planned.{of-base, of-added}
 use Rattle.plan.proofs.strike.Statement.{statement}
 use Rattle.plan.proofs.strike.Tie as tie
 
@@ -53,14 +54,17 @@ returns c =
     let d = c .before .before .before .before in
     let b = d .before .before .before in
     let w = of-base (knows b) (b .args .r) (b .pre .1) _ (origin d ∙ c .before .before .o .given .1) in
-    strike-of-base (knows b) (b .args .r) (b .pre .1) _ (w .0) (c .strike-base .result) (c .strike-base .ensures)
+    let a = b .args in
+    c .strike-base .ensures
+    ∙ ap (strikeSplice (a .keys .now) (layerOf (a .c) (a .m) (a .layer .now))) (sym (w .0))
 
 returns-2 : tie.Need-returns-2
 returns-2 c =
     let d = c .before .before .before .before in
     let b = d .before .before .before in
-    rw (c .out .ensures)
-    (strike-of-added (knows b) (b .args .r) (b .pre .1) _ (origin d ∙ c .before .before .o2 .given .1))
+    let w = of-added (knows b) (b .args .r) (b .pre .1) _ (origin d ∙ c .before .before .o2 .given .1) in
+    let a = b .args in
+    c .out .ensures ∙ ap (strikeSplice (a .keys .now) (layerOf (a .c) (a .m) (a .layer .now))) (sym (w .0))
 
 returns-3 : tie.Need-returns-3
 returns-3 c =

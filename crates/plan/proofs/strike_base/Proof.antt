@@ -5,7 +5,6 @@ use Prim.Native.Nat.{_-_}
 use Rattle.model.specs.Raw.{layerOf}
 use Rattle.landing.proofs.Known.{Known, known}
 use Rattle.plan.proofs.Struck.{in-turn}
-use Rattle.plan.proofs.Planned.{strike-plans}
 use Rattle.plan.proofs.strike_base.Statement.{statement}
 use Rattle.plan.proofs.strike_base.Tie as tie
 
@@ -40,9 +39,12 @@ strike-requires c κs = search needs
 returns : tie.Need-returns
 returns c =
     let d = c .before .before in
-    let b = d .before .before .before .before in
-    strike-plans (knows b) (b .args .s) _ _ (b .pre .2) (d .before .landing .ensures) (d .landing2 .ensures)
-    (c .strike .result) (c .strike .ensures)
+    λ x. record {
+      i = d .before .landing .ensures x;
+      gone = d .landing2 .ensures x - d .before .landing .ensures x;
+      comes = 1;
+      entry = c .strike .ensures x;
+    }
 
 pub strike-base-spec : {M : Type 1} → statement M
 strike-base-spec =

@@ -7,11 +7,14 @@ use lib.ListN.{length}
 use Rattle.words.specs.declared.Answer.the-variants.{Done, Refused}
 use Rattle.model.specs.Layer.{rowsAfter}
 use Rattle.model.specs.Raw.{layerOf}
+use Rattle.model.specs.Edits.{strikeRow}
 use Rattle.model.specs.Calls.{readyAnswer, strikeAnswer}
 use Rattle.fit.proofs.Answers.{is-ready, rows-shown}
 use Rattle.landing.proofs.Known.{Known, known}
-use Rattle.write.specs.Plans.{splices}
-use Rattle.plan.proofs.Answers.{may-enter, enters, as-before, go-on}
+use Rattle.enter.specs.Move.{entries}
+use Rattle.write.specs.Plans.{Plans}
+use Rattle.plan.proofs.Planned.{strike-splices}
+use Rattle.plan.proofs.Answers.{planned, may-enter, enters, as-before, go-on}
 use Rattle.strike.proofs.Answers.{
   strikeRest,
   strike-ready,
@@ -72,8 +75,18 @@ strike-requires c κs =
     let d = c .before .before .before in
     (is-ready _ _ _ _ _ (passed d), omega (arith, shown d, c .before .if1 .left))
 
+-- what the strike does leads to the layer without the row
+plans : (c : tie.After-strike) →
+    let a = c .before .before .before .before .before .before .before .before .before .before .args in
+    let L = layerOf (a .c) (a .m) (a .layer .now) in
+    Plans (a .c) L (strikeRow (a .keys .now) (a .r) L) (entries (c .strike .result))
+plans c =
+    let d = c .before .before .before .before in
+    planned (c .strike .ensures)
+    (strike-splices (knows d) _ (omega (arith, shown d, c .before .before .if1 .left)))
+
 enter-requires : tie.Need-enter-requires
-enter-requires c κs = may-enter (knows (c .before .before .before .before .before)) (splices (c .before .strike .ensures))
+enter-requires c κs = may-enter (knows (c .before .before .before .before .before)) (plans (c .before))
 
 same-length-2 : tie.Need-same-length-2
 same-length-2 c = search needs
@@ -98,7 +111,7 @@ returns-3 c =
     enters (a .c) (a .m) (a .layer .now) _ _ (knows d)
     (strike-last (a .c) (a .m) (a .layer .now) (a .keys .now) (a .r)
     (omega (arith, shown d, e .before .before .if1 .left)) ∙ rest d)
-    (splices (e .strike .ensures)) _ _ (c .before .before .enter .ensures)
+    (plans e) _ _ (c .before .before .enter .ensures)
 
 pub strike-spec : {M : Type 1} → statement M
 strike-spec =
