@@ -1,7 +1,7 @@
 /* Two desks edit one group table at once; one desk's layer is moved past the other's, the two are combined and read.
  *
  * Build and run, from the repository's top:
- *     rt staticlib card && gcc -Iinclude examples/driver.c target/staticlib/libcard.a -o target/driver && target/driver
+ *     (cd crates/card && rt lib) && mkdir -p target && gcc -Iinclude examples/driver.c crates/card/out/libcard.a -o target/driver && target/driver
  */
 #include "kwadirumpe.h"
 #include <stdio.h>

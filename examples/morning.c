@@ -1,7 +1,7 @@
 /* The night desk edits a layer and saves it to a file; the morning desk opens the file, checks it, and reads a column through it.
  *
  * Build and run, from the repository's top:
- *     rt staticlib card && gcc -Iinclude examples/morning.c target/staticlib/libcard.a -o target/morning && target/morning target/night.layer
+ *     (cd crates/card && rt lib) && mkdir -p target && gcc -Iinclude examples/morning.c crates/card/out/libcard.a -o target/morning && target/morning target/night.layer
  */
 #include "kwadirumpe.h"
 #include <stdio.h>

@@ -2,7 +2,7 @@
  * and by kw_renumber, which is one edit.
  *
  * Build and run, from the repository's top:
- *     rt staticlib card && gcc -Iinclude examples/renumber.c target/staticlib/libcard.a -o target/renumber && target/renumber
+ *     (cd crates/card && rt lib) && mkdir -p target && gcc -Iinclude examples/renumber.c crates/card/out/libcard.a -o target/renumber && target/renumber
  */
 #include "kwadirumpe.h"
 #include <stdio.h>

@@ -1,4 +1,4 @@
-// Builds the archive that C links (`rt staticlib card`, at the repository's top) and the plain C version beside it, and links both.
+// Builds the archive that C links (`rt lib`, in crates/card) and the plain C version beside it, and links both.
 use std::path::Path;
 use std::process::Command;
 
@@ -12,9 +12,12 @@ fn main() {
     let top = Path::new(&here).parent().unwrap().to_path_buf();
     let out = std::env::var("OUT_DIR").unwrap();
     println!("cargo:rerun-if-changed=c");
-    println!("cargo:rerun-if-changed=../crates");
+    for it in std::fs::read_dir(top.join("crates")).unwrap() {
+        // what rt makes is in out/
+        println!("cargo:rerun-if-changed={}/src", it.unwrap().path().display());
+    }
     println!("cargo:rerun-if-changed=../crates.txt");
-    run("rt", &["staticlib", "card"], &top);
+    run("rt", &["lib"], &top.join("crates/card"));
     let objects = ["plain", "file", "control"].map(|name| {
         let object = format!("{out}/{name}.o");
         // loops of one line of code and less take twice the time where they straddle two: none of plain C's does
@@ -23,7 +26,7 @@ fn main() {
         object
     });
     run("ar", &["rcs", &format!("{out}/libplain.a"), &objects[0], &objects[1], &objects[2]], Path::new(&here));
-    println!("cargo:rustc-link-search=native={}/target/staticlib", top.display());
+    println!("cargo:rustc-link-search=native={}/crates/card/out", top.display());
     println!("cargo:rustc-link-search=native={out}");
     println!("cargo:rustc-link-lib=static=card");
     println!("cargo:rustc-link-lib=static=plain");

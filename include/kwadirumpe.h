@@ -1,6 +1,6 @@
 /* Kwadirumpe: layers over a replication card's multicast group table.
  *
- * Link with the archive that `rt staticlib card` writes: target/staticlib/libcard.a
+ * Link with the archive that `rt lib` writes in crates/card: crates/card/out/libcard.a
  *
  * A TABLE has c columns (1 to 8) of unsigned 64-bit numbers and n rows (0 to 4,096). Column 0 is the key, the group number,
  * strictly ascending. Columns are lent one at a time, as a pointer and a length in numbers; n is that length. (kw_renumber alone

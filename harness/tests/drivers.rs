@@ -9,7 +9,7 @@ fn run(name: &str, args: &[&str]) -> String {
     let program = Path::new(env!("CARGO_TARGET_TMPDIR")).join(name);
     let built = Command::new("gcc")
         .args(["-std=c11", "-O2", "-Wall", "-Wextra", "-Wpedantic", "-Werror", "-Iinclude"])
-        .args([&format!("examples/{name}.c"), "target/staticlib/libcard.a", "-o"])
+        .args([&format!("examples/{name}.c"), "crates/card/out/libcard.a", "-o"])
         .arg(&program)
         .current_dir(top)
         .output()

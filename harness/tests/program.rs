@@ -87,7 +87,7 @@ fn entered(answer: scope::Pair, m: &mut usize, edited: &mut bool) -> u64 {
 
 /// The program itself, its input in blocks of these sizes.
 fn run(input: &[u8], mut size: impl FnMut() -> usize) -> String {
-    let mut child = Command::new(top().join("target/bin/print")).stdin(Stdio::piped()).stdout(Stdio::piped()).spawn().unwrap();
+    let mut child = Command::new(top().join("crates/print/out/print")).stdin(Stdio::piped()).stdout(Stdio::piped()).spawn().unwrap();
     let mut pipe = child.stdin.take().unwrap();
     let reader = std::thread::spawn(move || child.wait_with_output().unwrap());
     let mut rest = input;

@@ -1,4 +1,6 @@
 // Add: the splice of a new row, planned and entered.
+#![tactic(auto)]
+
 ghost use Rattle.std.specs.Prelude.{◌≡◌};
 ghost use Rattle.model.specs.Calls.{add_answer, add_slice};
 

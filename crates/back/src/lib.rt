@@ -1,4 +1,6 @@
 // Back from a row number to what stands there.
+#![tactic(auto)]
+
 ghost use Rattle.std.specs.Prelude.{◌≡◌};
 ghost use Rattle.model.specs.Calls.{back_answer};
 

@@ -1,11 +1,13 @@
 // The base rows of the printing program: what is counted, and a base row entered.
+#![tactic(auto)]
+
 ghost use Rattle.std.specs.Prelude.{◌≡◌, List, ℕ, ◌≤◌, ◌<◌};
 ghost use Rattle.base.specs.Base.{most_base, column_of, sheet_of, stay as Base·stay, below_last, Based};
 
 use text::Said;
 
 // What is counted: base rows that stand, entries of the layer, whether an edit line was read, and lines read.
-#[derive(Drop)]
+#[derive(Clone, Copy)]
 pub struct Counts {
     pub rows: usize,
     pub entries: usize,
@@ -14,7 +16,7 @@ pub struct Counts {
 }
 
 // The counts after a line, and what the line says.
-#[derive(Drop)]
+#[derive(Clone, Copy)]
 pub struct Reply {
     pub counts: Counts,
     pub said: Said,

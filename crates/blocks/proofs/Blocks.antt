@@ -12,7 +12,6 @@ use mir.Syntax.{w64}
 use mir.Val.{to_z, of_z}
 use mir.Facts.{to_z-of_z}
 use borrow.Author.Tests.{ltb-true, ltb-false}
-use Rattle.libc.specs.Io.{Moved}
 use Rattle.io.specs.Counts.{clamp_len}
 use Rattle.text.specs.Text.{Wrote}
 use Rattle.text.proofs.Writing.{wrote_then}
@@ -24,7 +23,7 @@ use Rattle.show.specs.Shown.{ending}
 use Rattle.console.specs.Told.{closing}
 use Rattle.blocks.specs.declared.Went.{Went}
 use Rattle.blocks.specs.declared.Went.TheVariants.{On, Over, Failed}
-use Rattle.blocks.specs.Going.{went_by, Block}
+use Rattle.blocks.specs.Going.{Moved, went_by, Block}
 
 -- what a read answers is read back from its bits
 pub bits_read : (z : ℤ) → Moved 4096 z → to_z w64 (of_z w64 z) ≡ z

@@ -1,16 +1,17 @@
 // The input in blocks: the bytes of one taken as its read answered, and the end of the input with the table behind it.
+#![tactic(auto)]
+
 ghost use Rattle.std.specs.Prelude.{◌≡◌, take};
-ghost use Rattle.libc.specs.Io.{Moved};
 ghost use Rattle.text.specs.Text.{Wrote};
 ghost use Rattle.intake.specs.Reading.{reading_of};
 ghost use Rattle.feed.specs.Input.{hushed, Ready};
 ghost use Rattle.console.specs.Told.{closing};
-ghost use Rattle.blocks.specs.Going.{went_by, Block};
+ghost use Rattle.blocks.specs.Going.{Moved, went_by, Block};
 
 use intake::Feed;
 
 // How a read went: bytes came, the input ended, or it failed.
-#[derive(Drop)]
+#[derive(Clone, Copy)]
 pub enum Went {
     On,
     Over,
@@ -18,7 +19,7 @@ pub enum Went {
 }
 
 // How a read went, and where the reading stands behind its bytes.
-#[derive(Drop)]
+#[derive(Clone, Copy)]
 pub struct Taken {
     pub went: Went,
     pub fed: Feed,

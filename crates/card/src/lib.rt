@@ -1,4 +1,6 @@
 // What C calls: each export hands its arguments to the proved call and turns the answer into two numbers. include/kwadirumpe.h has the prototypes.
+#![tactic(auto)]
+
 ghost use Rattle.std.specs.Prelude.{length, ◌≡◌};
 ghost use Rattle.model.specs.Calls.{
   fit_answer,

@@ -1,4 +1,6 @@
 // Change: the splice of a base row's change, planned and entered, or one value set.
+#![tactic(auto)]
+
 ghost use Rattle.std.specs.Prelude.{◌≡◌};
 ghost use Rattle.model.specs.Calls.{change_answer, change_slice};
 

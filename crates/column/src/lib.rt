@@ -1,4 +1,6 @@
 // The numbers of a column, as a layer shows them, written to a buffer.
+#![tactic(auto)]
+
 ghost use Rattle.std.specs.Prelude.{◌≡◌, [], ◌∷◌, ◌++◌, ◌+◌, ◌≤◌, ◌<◌, length, drop};
 ghost use Rattle.std.proofs.Math.Seq.{slice};
 ghost use Rattle.model.specs.Calls.{shown_column};

@@ -1,4 +1,6 @@
 // Two layers combined into one, in a third slice: checked first, counted where they may not fit, then written in one walk.
+#![tactic(auto)]
+
 ghost use Rattle.std.specs.Prelude.{◌≡◌, ltb, length};
 ghost use Rattle.model.specs.Raw.{layer_of};
 ghost use Rattle.model.specs.Calls.{combine_answer, combine_slice};

@@ -1,4 +1,6 @@
 // Numbers written in decimal.
+#![tactic(auto)]
+
 ghost use Rattle.std.specs.Prelude.{◌≡◌, ◌+◌, ◌%◌, ◌≤◌, ◌<◌, length};
 ghost use Rattle.std.proofs.Math.Seq.{paste};
 ghost use Rattle.decimal.specs.Decimal.{digits, decimal};

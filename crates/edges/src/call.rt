@@ -4,7 +4,7 @@ use numbers::list;
 use words::Answer;
 
 // The numbers of a call, named as those of change.
-#[derive(Drop)]
+#[derive(Clone, Copy)]
 struct Args {
     c: usize,
     m: usize,

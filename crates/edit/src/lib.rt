@@ -1,1 +1,2 @@
 // The promises of the three edits: laws alone, over what the calls answer and what they leave in the slice.
+#![tactic(auto)]

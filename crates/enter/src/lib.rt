@@ -1,4 +1,6 @@
 // An edit entered into a layer's slice: one splice, two, or one value set.
+#![tactic(auto)]
+
 ghost use Rattle.std.specs.Prelude.{◌≡◌, length};
 ghost use Rattle.model.specs.Raw.{Held};
 ghost use Rattle.splice.specs.Splice.{room_answer, if_done};
@@ -49,7 +51,7 @@ pub fn enter_in_turn(
 }
 
 // Value j of entry number i, which is to become v.
-#[derive(Drop)]
+#[derive(Clone, Copy)]
 pub struct Value {
     pub i: usize,
     pub j: usize,

@@ -1,4 +1,6 @@
 // An entry as it lies in a layer's slice: its numbers, its head, and what stands at a cursor.
+#![tactic(auto)]
+
 ghost use Rattle.std.specs.Prelude.{◌≡◌, ◌+◌, ◌*◌, ◌≤◌, ◌<◌, length, get_or, drop};
 ghost use Rattle.order.specs.Lists.{one};
 ghost use Rattle.model.specs.Raw.{Held, entry_at, layer_of};
@@ -52,7 +54,7 @@ pub fn head_at(c: usize, at: usize, layer: &[u64]) -> Head
 }
 
 // A place in a layer: entry number i, which stands from `at`.
-#[derive(Drop)]
+#[derive(Clone, Copy)]
 pub struct Cursor {
     pub i: usize,
     pub at: usize,
@@ -80,7 +82,7 @@ impl Cursor {
 
 // What stands at a cursor: nothing more; a row added at s, by its key; base row s struck, with its key; column j of base
 // row s changed to v.
-#[derive(Drop)]
+#[derive(Clone, Copy)]
 pub enum Sight {
     End,
     Add(u64, u64),

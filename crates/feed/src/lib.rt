@@ -1,4 +1,6 @@
 // The input's start, a block of its bytes taken, and its end.
+#![tactic(auto)]
+
 ghost use Rattle.std.specs.Prelude.{◌≡◌, length, take};
 ghost use Rattle.text.specs.Text.{Wrote};
 ghost use Rattle.intake.specs.Reading.{reading_of, Took};

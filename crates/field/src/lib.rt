@@ -1,16 +1,18 @@
 // One field of a line, read as a number.
+#![tactic(auto)]
+
 ghost use Rattle.std.specs.Prelude.{◌≡◌, ◌≤◌, ◌<◌, length, drop};
 ghost use Rattle.field.specs.Scan.{grown_by, scanned};
 
 // A number with one more digit, or past 64 bits or no digit.
-#[derive(Drop)]
+#[derive(Clone, Copy)]
 pub enum Grown {
     To(u64),
     Over,
 }
 
 // A number that ends the line; one with the index of the next field; no number.
-#[derive(Drop)]
+#[derive(Clone, Copy)]
 pub enum Field {
     Last(u64),
     More(u64, usize),

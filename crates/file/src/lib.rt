@@ -1,4 +1,6 @@
 // What a file's bytes hold, once checked: its numbers, and the layer read into a slice.
+#![tactic(auto)]
+
 ghost use Rattle.std.specs.Prelude.{◌≡◌, ◌-◌, ◌≤◌, length};
 ghost use Rattle.little.specs.Little.{number_at};
 ghost use Rattle.format.specs.File.{file_answer, load_answer, load_slice, if_done, entries_in, columns_in, rows_in, note_in};

@@ -1,5 +1,7 @@
 // The edges of a layer's file: every length from 0 to 40 bytes, each number of the trailer at and past its limits, notes at theirs, and 512
 // entries of eight columns. A line has the file's length; then what check, columns, rows, note and load answer; then three numbers of load's slice.
+#![tactic(auto)]
+
 use words::{Answer, Entry};
 
 fn number(x: u64) {

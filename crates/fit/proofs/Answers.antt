@@ -4,14 +4,12 @@ use Prim.Native.Nat.{ℕ, ◌≤◌, ◌<◌}
 use native.Mathlib.Nat.{zero-add}
 use native.Mathlib.Omega.{arith}
 use mathlib.Core.Path.{◌≡◌, refl, sym, ap, ◌∙◌}
-use mathlib.Core.Bool.{Bool, true, false, not, ◌&&◌}
-use mathlib.Core.List.{List, [], ◌∷◌, ◌++◌}
+use mathlib.Core.Bool.{Bool, true, false, ◌&&◌}
+use mathlib.Core.List.{List, ◌∷◌, ◌++◌}
 use lib.ListN.{length}
-use lib.Dec.{ltb}
 use borrow.Author.Tests.{lt-ltb, le-ltb, eqb-true, not-false}
 use Rattle.order.specs.Lists.{ascending}
 use Rattle.words.specs.declared.Refusal.{Refusal}
-use Rattle.words.specs.declared.Answer.{Answer}
 use Rattle.words.specs.declared.Answer.TheVariants.{Done, Refused}
 use Rattle.model.specs.Layer.{Layer, rows_after}
 use Rattle.model.specs.Raw.{layer_of}
@@ -22,19 +20,7 @@ use Rattle.words.specs.Answer.{refusal}
 use Rattle.model.specs.Calls.{form_rows, fit_rows, form_answer, ready_answer, fit_answer}
 use Rattle.theory.proofs.Raw.{layer_length}
 use Rattle.theory.proofs.Fit.{fits_all}
-use Rattle.theory.proofs.Stages.{
-  onward,
-  stage,
-  stage_refuses,
-  stage_done,
-  stage_other,
-  stage_same,
-  own_refused,
-  own_passed,
-  stage_passed,
-  reached,
-}
-use Rattle.form.specs.InForm.{InForm}
+use Rattle.theory.proofs.Stages.{onward, stage, stage_other, stage_same, own_refused, own_passed, stage_passed, reached}
 use Rattle.form.proofs.Accepted.{Accepted, accepted, in_form}
 use Rattle.fit.specs.Ready.{Ready}
 

@@ -1,4 +1,6 @@
 // The fit check of a layer: does it keep form and fit its key column, with the place of the least entry at fault.
+#![tactic(auto)]
+
 ghost use Rattle.std.specs.Prelude.{◌≡◌, length};
 ghost use Rattle.model.specs.Raw.{layer_of};
 ghost use Rattle.model.specs.Fit.{fit_place};

@@ -1,4 +1,5 @@
 // The form check of a layer, with the place of the least entry at fault.
+#![tactic(auto)]
 
 ghost use Rattle.std.specs.Prelude.{◌≡◌};
 ghost use Rattle.model.specs.Form.{args_ok};

@@ -1,1 +1,2 @@
 // A layer in a file as definitions, run on examples: no code.
+#![tactic(auto)]

@@ -71,23 +71,20 @@ cell true false u = refl
 cell false t u = refl
 
 -- conflict by tests of the kinds
-module _ (a b x y : Bool) (u v q k : ℕ) where
-  pub clash_kinds : (p s : ℕ)
-      → rule_number (clash (at p (deed_by a b (u ∷ []) u q)) (at s (deed_by x y (v ∷ []) v k)))
-      ≡ cond (a && x) (cond (eqb u v) 3 0) (cond (a || x) 0
-      (cond (eqb p s) (cond (b || y) 1 (cond (eqb q k) (cond (agree (to u) (to v)) 0 2) 0)) 0))
-  unfolding key
-  clash_kinds p s =
-      elim a [
-        | true ↦ elim x [ true ↦ number (eqb u v) same_key | false ↦ elim y [ true ↦ refl | false ↦ refl ] ]
-        | false ↦ elim x [
-          | true ↦ elim b [ true ↦ refl | false ↦ refl ]
-          | false ↦ elim b [
-            | true ↦ elim y [ true ↦ number (eqb p s) struck_row | false ↦ number (eqb p s) struck_row ]
-            | false ↦ elim y [ true ↦ number (eqb p s) struck_row | false ↦ cell (eqb p s) (eqb q k) (agree (to u) (to v)) ]
-          ]
-        ]
-      ]
+pub clash_kinds : (a b x y : Bool) (u v q k p s : ℕ)
+    → rule_number (clash (at p (deed_by a b (u ∷ []) u q)) (at s (deed_by x y (v ∷ []) v k)))
+    ≡ cond (a && x) (cond (eqb u v) 3 0) (cond (a || x) 0
+    (cond (eqb p s) (cond (b || y) 1 (cond (eqb q k) (cond (agree (to u) (to v)) 0 2) 0)) 0))
+unfolding key
+clash_kinds true b true y u v q k p s = number (eqb u v) same_key
+clash_kinds true b false true u v q k p s = refl
+clash_kinds true b false false u v q k p s = refl
+clash_kinds false true true y u v q k p s = refl
+clash_kinds false false true y u v q k p s = refl
+clash_kinds false true false true u v q k p s = number (eqb p s) struck_row
+clash_kinds false true false false u v q k p s = number (eqb p s) struck_row
+clash_kinds false false false true u v q k p s = number (eqb p s) struck_row
+clash_kinds false false false false u v q k p s = cell (eqb p s) (eqb q k) (agree (to u) (to v))
 
 -- the rule that two heads meet, test by test
 module _ (d e : Head) where

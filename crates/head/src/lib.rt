@@ -1,4 +1,6 @@
 // An entry by its head: which of two entries stands first, and which rule of conflict they meet.
+#![tactic(auto)]
+
 ghost use Rattle.std.specs.Prelude.{◌≡◌};
 ghost use Rattle.model.specs.Raw.{column_of};
 ghost use Rattle.model.specs.Cell.{agree};
@@ -9,7 +11,7 @@ ghost use Rattle.head.specs.Head.{seen, cell_of};
 use words::Entry;
 
 // The head of an entry: its position, its kind and its first value, which is an add's or a strike's key.
-#[derive(Drop)]
+#[derive(Clone, Copy)]
 pub struct Head {
     pub pos: u64,
     pub kind: u64,

@@ -1,4 +1,6 @@
 // What one line of the printing program does to the base table and the layer, and says.
+#![tactic(auto)]
+
 mod edits;
 
 ghost use Rattle.std.specs.Prelude.{◌≤◌, ◌<◌};

@@ -1,11 +1,13 @@
 // One byte of the input taken: a line feed ends a line, which is heard; any other byte is kept.
+#![tactic(auto)]
+
 ghost use Rattle.std.specs.Prelude.{◌≡◌, [], ◌∷◌, ◌++◌, ◌≤◌, length, take};
 ghost use Rattle.intake.specs.Reading.{most_kept, reading_of, Writes, Took, Spacious, Ended};
 
 use base::Counts;
 
 // Where the reading stands: the counts, how many bytes of the line are kept, and how many bytes of text are written.
-#[derive(Drop)]
+#[derive(Clone, Copy)]
 pub struct Feed {
     pub counts: Counts,
     pub kept: usize,

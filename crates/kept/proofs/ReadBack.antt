@@ -109,6 +109,7 @@ module _ (c n : ℕ) (L : Layer) (h : Layered c n L) where
 
   -- the trailer's numbers are of 64 bits
   trailer_words : Words (trailer c n (length L))
+  trailer_words v (next (next (next (next x16)))) = elim x16 [ ]
   trailer_words v (here e) = omega (arith, e, few_numbers)
   trailer_words v (next (here e)) = omega (arith, e, h.most)
   trailer_words v (next (next (here e))) = omega (arith, e, h.few)

@@ -1,4 +1,6 @@
 // A key column: whether it ascends, and how many of its keys lie below another.
+#![tactic(auto)]
+
 ghost use Rattle.std.specs.Prelude.{◌≡◌, true, ◌&&◌, ◌+◌, ◌<◌, length};
 ghost use Rattle.order.specs.Lists.{ascending};
 ghost use Rattle.model.specs.Fit.{keys_below};

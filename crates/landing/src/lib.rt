@@ -1,4 +1,6 @@
 // Where an edit lands among the entries of a layer, and what stands there: the change that it replaces, a shown key.
+#![tactic(auto)]
+
 ghost use Rattle.std.specs.Prelude.{◌≡◌, ◌≤◌, drop};
 ghost use Rattle.order.proofs.Pairs.{AllPairs};
 ghost use Rattle.model.specs.Raw.{Held, layer_of};

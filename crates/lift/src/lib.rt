@@ -1,4 +1,6 @@
 // A shown row taken out of a layer: the splice that strikes it, and its values as they are shown.
+#![tactic(auto)]
+
 ghost use Rattle.std.specs.Prelude.{◌≡◌, true, [], ◌+◌, ◌*◌, ◌≤◌, ◌<◌, length, get_or, take, drop};
 ghost use Rattle.order.specs.Lists.{all};
 ghost use Rattle.model.specs.Row.{row_at, columnwise};
@@ -52,7 +54,7 @@ fn shown_row(
 }
 
 // A row taken out: the splice that strikes it, and its values, with zeros behind them.
-#[derive(Drop)]
+#[derive(Clone, Copy)]
 pub struct Lifted {
     pub splice: Splice,
     pub row: [u64; 8],

@@ -1,4 +1,6 @@
 // What a line of the printing program says.
+#![tactic(auto)]
+
 ghost use Rattle.std.specs.Prelude.{◌≡◌, [], ◌∷◌, ◌≤◌, length, drop};
 ghost use Rattle.line.specs.Line.{fields, said, line_of};
 ghost use Rattle.line.specs.Fields.{with_fields};
@@ -7,7 +9,7 @@ use field::Field;
 
 // What a line says: a base row, a row to add, the number of a row to strike, a row number, a column and a value to
 // change it to, a row number and the group number to give it; or nothing that can be read.
-#[derive(Drop)]
+#[derive(Clone, Copy)]
 pub enum Line {
     Base(u64, u64, u64),
     Add(u64, u64, u64),

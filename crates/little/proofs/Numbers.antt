@@ -24,6 +24,8 @@ use Rattle.little.specs.Little.{bytes, eight, number, number_at, numbers_at, eig
 
 -- what stands in front is in the list
 pub take_mem : (k : ℕ) (f : List ℕ) (b : ℕ) → Mem b (take k f) → Mem b f
+take_mem zero f b x' = elim x' [ ]
+take_mem (suc k) [] b x3 = elim x3 [ ]
 take_mem (suc k) (c ∷ f) b (here e) = here e
 take_mem (suc k) (c ∷ f) b (next m) = next (take_mem k f b m)
 
@@ -45,6 +47,7 @@ abbrev pub Bytes : List ℕ → Type 0
 Bytes f = (b : ℕ) → Mem b f → b < 256
 
 pub bytes_are : (k v : ℕ) → Bytes (bytes k v)
+bytes_are zero v b x' = elim x' [ ]
 bytes_are (suc k) v b (here e) = omega (arith, e)
 bytes_are (suc k) v b (next m) = bytes_are k (v / 256) b m
 
@@ -80,6 +83,7 @@ eights_append (x ∷ xs) ys =
 
 pub eights_bytes : (vs : List ℕ) → Bytes (eights vs)
 unfolding eights
+eights_bytes [] b m = elim m [ ]
 eights_bytes (v ∷ vs) b m = ⊎_elim (λ k. bytes_are 8 v b k) (λ k. eights_bytes vs b k) (append_cases (eight v) m)
 
 -- The numbers of a run.
@@ -139,6 +143,7 @@ module _ (f : List ℕ) (all : Bytes f) where
 
   pub numbers_words : (k i : ℕ) → i + 8 * k ≤ length f → Words (numbers_at k i f)
   unfolding numbers_at
+  numbers_words zero i h v x'' = elim x'' [ ]
   numbers_words (suc k) i h v (here e) = omega (arith, e, number_word i (omega arith))
   numbers_words (suc k) i h v (next m) = numbers_words k (i + 8) (omega arith) v m
 

@@ -1,4 +1,6 @@
 // Numbers as eight bytes, little end first: read from bytes.
+#![tactic(auto)]
+
 ghost use Rattle.std.specs.Prelude.{◌≡◌, [], ◌∷◌, ◌++◌, ◌+◌, ◌*◌, ◌≤◌, ◌<◌, length, drop};
 ghost use Rattle.little.specs.Little.{number, number_at, numbers_at};
 

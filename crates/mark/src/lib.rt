@@ -1,4 +1,6 @@
 // The way from a row number to what stands there, resumable: the mark of one row serves to find that of a later one.
+#![tactic(auto)]
+
 ghost use Rattle.std.specs.Prelude.{◌≡◌, true, ◌+◌, ◌*◌, ◌≤◌, ◌<◌};
 ghost use Rattle.model.specs.Layer.{rows_after};
 ghost use Rattle.model.specs.Raw.{Held, layer_of};
@@ -12,7 +14,7 @@ use words::Back;
 
 // A place in a layer on the way to a row of what it shows: entry number i, which stands from `at`. Were there no
 // entries but those from there on, the row would be base row t.
-#[derive(Drop)]
+#[derive(Clone, Copy)]
 pub struct Mark {
     pub i: usize,
     pub at: usize,
@@ -70,7 +72,7 @@ impl Mark {
 
 // The way at an entry: the row is the base row before it; or it is the entry's own, with this key; or the entry is passed,
 // and the row would be this base row.
-#[derive(Drop)]
+#[derive(Clone, Copy)]
 pub enum Way {
     Before,
     Own(u64),

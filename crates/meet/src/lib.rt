@@ -1,4 +1,6 @@
 // What the next entries of two layers make of each other: by the keys that they concern, then by their kinds.
+#![tactic(auto)]
+
 ghost use Rattle.std.specs.Prelude.{◌≡◌, ◌+◌, ◌*◌, ◌≤◌, length, drop};
 ghost use Rattle.model.specs.Raw.{Held, layer_of};
 ghost use Rattle.woven.specs.Woven.{meet_kinds, changes_ahead};

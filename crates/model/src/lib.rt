@@ -1,1 +1,2 @@
 // The scope as definitions, run on examples: no code.
+#![tactic(auto)]

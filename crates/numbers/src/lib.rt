@@ -1,5 +1,7 @@
 // The numbers of a case, in lists between semicolons. A list that ends in `*k` goes on until it has k numbers, by the
 // difference between its two halves: `0 1 *4` is 0 1 2 3, and `5 7 5 8 *6` is 5 7 5 8 5 9.
+#![tactic(auto)]
+
 ghost use Rattle.std.specs.Prelude.{◌<◌, ◌≤◌, length};
 
 use std::num::{wrapping_add_u64, wrapping_sub_u64};
@@ -14,7 +16,7 @@ pub fn get(xs: &[u64], i: usize) -> u64 {
 
 // What stands at an index of a case: nothing to read (0), a number (1), the length of a list (2), the end of one (3);
 // its value, and the index behind it.
-#[derive(Drop)]
+#[derive(Clone, Copy)]
 struct Token {
     kind: u64,
     value: u64,

@@ -5,7 +5,7 @@ use mathlib.Core.Bool.{Bool, true, false}
 use mathlib.Core.List.Memᴰ.{head as here}
 use mathlib.Core.List.Memᴰ.{tail as next}
 use mathlib.Core.List.{List, [], ◌∷◌, ◌++◌, map, Memᴰ as Mem}
-use Prim.Native.Nat.{ℕ, zero, suc, ◌+◌, ◌-◌, ◌≤◌, ◌<◌}
+use Prim.Native.Nat.{ℕ, zero, suc, ◌+◌, ◌≤◌, ◌<◌}
 use native.Mathlib.Omega.{arith}
 use lib.ListN.{length, get_or}
 use lib.Dec.{ltb}
@@ -22,14 +22,15 @@ module _ {A : Type 0} where
 
   -- a member of a list has a place
   pub mem_at : (s : ℕ) (M : List A) (q : A) → Mem q M → (p : ℕ) × At q p s M
+  mem_at s [] q x' = elim x' [ ]
   mem_at s (x ∷ M) q (here e) = (s, top e refl)
   mem_at s (x ∷ M) q (next m) = let r = mem_at (suc s) M q m in (r.0, deep r.1)
 
-  pub at_mem : {M : List A} {q : A} {p s : ℕ} → At q p s M → Mem q M
+  pub at_mem : {q : A} {p : ℕ} {M : List A} {s : ℕ} → At q p s M → Mem q M
   at_mem (top e f) = here e
   at_mem (deep a) = next (at_mem a)
 
-  pub at_from : {M : List A} {q : A} {p s : ℕ} → At q p s M → s ≤ p
+  pub at_from : {q : A} {p : ℕ} {M : List A} {s : ℕ} → At q p s M → s ≤ p
   at_from (top e f) = omega arith
   at_from (deep a) = omega (arith, at_from a)
 
@@ -37,12 +38,12 @@ module _ {A : Type 0} where
   at_cast h (top e f) = top e (sym h ∙ f)
   at_cast h (deep n) = deep (at_cast h n)
 
-  pub at_length : {M : List A} {q : A} {p s : ℕ} → At q p s M → p < s + length M
+  pub at_length : {q : A} {p : ℕ} {M : List A} {s : ℕ} → At q p s M → p < s + length M
   at_length (top e f) = omega arith
   at_length (deep n) = omega (arith, at_length n)
 
   -- one element at one place
-  pub at_same : {M : List A} {q r : A} {p s : ℕ} → At q p s M → At r p s M → q ≡ r
+  pub at_same : {q : A} {p : ℕ} {M : List A} {r : A} {s : ℕ} → At q p s M → At r p s M → q ≡ r
   at_same (top e f) (top e' f') = e ∙ sym e'
   at_same (top e f) (deep b) = absurd (omega (arith, at_from b))
   at_same (deep a) (top e f) = absurd (omega (arith, at_from a))
@@ -71,6 +72,7 @@ module _ {A : Type 0} (key : A → ℕ) where
   below k r = ltb (key r) k
 
   pub asc_mem : (b : ℕ) (M : List A) → AscFrom b M → (r : A) → Mem r M → b ≤ key r
+  asc_mem b [] a r x'' = elim x'' [ ]
   asc_mem b (x ∷ M) a r (here e) = omega (arith, ap key e)
   asc_mem b (x ∷ M) a r (next m) = omega (arith, asc_mem (suc (key x)) M a.1 r m)
 
@@ -80,6 +82,7 @@ module _ {A : Type 0} (key : A → ℕ) where
   asc_none b (x ∷ M) k a h = omega (arith, one_ge (key x) k (omega arith), asc_none (suc (key x)) M k a.1 (omega arith))
 
   pub at_count : (b s : ℕ) (M : List A) → AscFrom b M → (q : A) (p : ℕ) → At q p s M → s + count (below (key q)) M ≡ p
+  at_count b s [] a q p x'' = elim x'' [ ]
   at_count b s (x ∷ M) a q p (top e f) =
       omega (
         arith,
@@ -109,6 +112,7 @@ module _ {A : Type 0} (key : A → ℕ) where
             (omega (arith, ap key e)),
         count_mono M (key q) l (omega arith),
       )
+  count_strict [] q l x'' h = elim x'' [ ]
   count_strict (x ∷ M) q l (next m) h = omega (arith, one_mono (key x) (key q) l (omega arith), count_strict M q l m h)
 
   -- ascending lists lowered, joined

@@ -5,7 +5,7 @@ use mathlib.Core.Bool.{Bool, true, false, not, cond}
 use mathlib.Core.List.Memᴰ.{head as here}
 use mathlib.Core.List.Memᴰ.{tail as next}
 use mathlib.Core.List.{List, [], ◌∷◌, ◌++◌, map, Memᴰ as Mem}
-use Prim.Native.Nat.{suc, ◌+◌, ◌-◌, ◌≤◌}
+use Prim.Native.Nat.{suc, ◌+◌, ◌≤◌}
 use native.Mathlib.Omega.{arith}
 use lib.ListN.{length}
 use Rattle.order.specs.Lists.{one, count, filter, insert}
@@ -81,6 +81,7 @@ module _ {A : Type 0} where
   -- where no two that pass can stand in one list, one that passes is the only one
   pub count_once : (f : A → Bool) (R : A → A → Bool) → ((x y : A) → f x ≡ true → f y ≡ true → R x y ≡ true → ⊥)
       → (xs : List A) → AllPairs R xs → (x : A) → Mem x xs → f x ≡ true → count f xs ≡ 1
+  count_once f R two [] p x x5 t = elim x5 [ ]
   count_once f R two (y ∷ ys) p x (here e) t =
       let u : f y ≡ true = sym (ap f e) ∙ t in
       omega (arith, ap one u, count_zero f ys (λ z m. ap one (not_passed (f z) (λ v. two y z u v (p.0 z m)))))

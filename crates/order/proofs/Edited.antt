@@ -1,6 +1,6 @@
 -- A list with an element entered, taken out or replaced: its members, its order, its places, and what a walk over it does.
 -- Assumes nothing.
-use mathlib.Core.Path.{◌≡◌, refl, sym, ap, ◌∙◌}
+use mathlib.Core.Path.{◌≡◌, refl, sym, ap, subst, ◌∙◌}
 use mathlib.Core.Logic.{◌⊎◌, inl, inr, ⊎_elim}
 use mathlib.Core.Bool.{Bool, true, false, not, cond, ◌||◌}
 use mathlib.Core.List.Memᴰ.{head as here}
@@ -172,8 +172,8 @@ module _ {A : Type 0} (key : A → ℕ) where
       → filter (λ r. not (eqb (key r) (key q))) M ≡ without i M
   filter_without b i [] q a n = refl
   filter_without b zero (x ∷ M) q a n =
-      rw (at_head n, eq-eqb (key x) (key x) refl)
-      (keep_all (λ r. not (eqb (key r) (key x))) M (λ y m. ap not (unlike_head b x M a y m)))
+      subst (λ (t : A). filter (λ r. not (eqb (key r) (key t))) (x ∷ M) ≡ M) (sym (at_head n))
+      (rw (eq-eqb (key x) (key x) refl) (keep_all (λ r. not (eqb (key r) (key x))) M (λ y m. ap not (unlike_head b x M a y m))))
   filter_without b (suc i) (x ∷ M) q a n =
       rw (unlike_tail b x M a q (at_mem (at_tail n)))
       (ap (λ (t : List A). x ∷ t) (filter_without (suc (key x)) i M q a.1 (at_tail n)))
@@ -188,8 +188,9 @@ module _ {A : Type 0} (key : A → ℕ) where
       → map (λ r. cond (eqb (key r) (key q)) (f r) r) M ≡ set M i (f q)
   map_set f b i [] q a n = refl
   map_set f b zero (x ∷ M) q a n =
-      rw (at_head n, eq-eqb (key x) (key x) refl)
-      (ap (λ (t : List A). f x ∷ t) (alter_none f (key x) M (λ y m. unlike_head b x M a y m)))
+      subst (λ (t : A). map (λ r. cond (eqb (key r) (key t)) (f r) r) (x ∷ M) ≡ set (x ∷ M) zero (f t)) (sym (at_head n))
+      (rw (eq-eqb (key x) (key x) refl)
+      (ap (λ (t : List A). f x ∷ t) (alter_none f (key x) M (λ y m. unlike_head b x M a y m))))
   map_set f b (suc i) (x ∷ M) q a n =
       rw (unlike_tail b x M a q (at_mem (at_tail n)))
       (ap (λ (t : List A). x ∷ t) (map_set f (suc (key x)) i M q a.1 (at_tail n)))

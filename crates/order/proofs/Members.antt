@@ -22,6 +22,7 @@ use Rattle.order.proofs.Tests.{and_l, and_r, and_of, or_cases, or_l, or_r, or_fa
 module _ {A : Type 0} where
   -- all
   pub all_mem : (f : A → Bool) (xs : List A) → all f xs ≡ true → (x : A) → Mem x xs → f x ≡ true
+  all_mem f [] e x x4 = elim x4 [ ]
   all_mem f (y ∷ ys) e x (here h) = ap f h ∙ and_l (f y) (all f ys) e
   all_mem f (y ∷ ys) e x (next m) = all_mem f ys (and_r (f y) (all f ys) e) x m
 
@@ -40,6 +41,7 @@ module _ {A : Type 0} where
       go ih (inr h) = let w = ih h in (w.0, next w.1, w.2)
 
   pub any_of : (f : A → Bool) (xs : List A) (x : A) → Mem x xs → f x ≡ true → any f xs ≡ true
+  any_of f [] x x4 h = elim x4 [ ]
   any_of f (y ∷ ys) x (here e) h = or_l (f y) (any f ys) (sym (ap f e) ∙ h)
   any_of f (y ∷ ys) x (next m) h = or_r (f y) (any f ys) (any_of f ys x m h)
 
@@ -48,6 +50,7 @@ module _ {A : Type 0} where
   any_none f (x ∷ xs) h = rw (h x (here refl)) (any_none f xs (λ y m. h y (next m)))
 
   pub none_any : (f : A → Bool) (xs : List A) → any f xs ≡ false → (x : A) → Mem x xs → f x ≡ false
+  none_any f [] e x x4 = elim x4 [ ]
   none_any f (y ∷ ys) e x (here h) = ap f h ∙ (or_false (f y) (any f ys) e).0
   none_any f (y ∷ ys) e x (next m) = none_any f ys (or_false (f y) (any f ys) e).1 x m
 
@@ -71,6 +74,7 @@ module _ {A : Type 0} where
       go ih false e n = deeper (ih n)
 
   pub mem_filter : (f : A → Bool) (xs : List A) (x : A) → Mem x xs → f x ≡ true → Mem x (filter f xs)
+  mem_filter f [] x x4 e = elim x4 [ ]
   mem_filter f (y ∷ ys) x (here h) e = rw (sym (ap f h) ∙ e) (here h)
   mem_filter f (y ∷ ys) x (next m) e =
       let ih = mem_filter f ys x m e in
@@ -118,14 +122,17 @@ module _ {A B : Type 0} where
       go ih (inr n) = let w = ih n in (w.0, next w.1, w.2)
 
   pub mem_gather : (f : A → List B) (xs : List A) (x : A) (b : B) → Mem x xs → Mem b (f x) → Mem b (gather f xs)
+  mem_gather f [] x b x4 n = elim x4 [ ]
   mem_gather f (y ∷ ys) x b (here e) n = append_left {s = f y} _ (rw (← e) n)
   mem_gather f (y ∷ ys) x b (next m) n = append_right (f y) (mem_gather f ys x b m n)
 
   -- map
   pub mem_map : (f : A → B) (xs : List A) (x : A) → Mem x xs → Mem (f x) (map f xs)
+  mem_map f [] x x3 = elim x3 [ ]
   mem_map f (y ∷ ys) x (here e) = here (ap f e)
   mem_map f (y ∷ ys) x (next m) = next (mem_map f ys x m)
 
   pub map_mem : (f : A → B) (xs : List A) (b : B) → Mem b (map f xs) → (x : A) × Mem x xs × (b ≡ f x)
+  map_mem f [] b x' = elim x' [ ]
   map_mem f (y ∷ ys) b (here e) = (y, here refl, e)
   map_mem f (y ∷ ys) b (next m) = let w = map_mem f ys b m in (w.0, next w.1, w.2)

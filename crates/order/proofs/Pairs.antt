@@ -50,6 +50,7 @@ module _ {A : Type 0} where
   -- of two members one stands before the other, where they are not the same
   pub pairs_two : (R : A → A → Bool) (xs : List A) → AllPairs R xs → (x y : A) → Mem x xs → Mem y xs
       → (x ≡ y) ⊎ ((R x y ≡ true) ⊎ (R y x ≡ true))
+  pairs_two R [] p x y x5 _ = elim x5 [ ]
   pairs_two R (z ∷ zs) p x y (here e) (here f) = inl (e ∙ sym f)
   pairs_two R (z ∷ zs) p x y (here e) (next n) = inr (inl (ap (λ (w : A). R w y) e ∙ p.0 y n))
   pairs_two R (z ∷ zs) p x y (next m) (here f) = inr (inr (ap (λ (w : A). R w x) f ∙ p.0 x m))

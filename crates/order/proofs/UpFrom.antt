@@ -23,5 +23,6 @@ module _ {A : Type 0} (f : ℕ → A) where
 
   -- a member is what f gives for some number
   pub up_mem : (s k : ℕ) (x : A) → Mem x (up_from f s k) → (i : ℕ) × (x ≡ f i)
+  up_mem s zero x x3 = elim x3 [ ]
   up_mem s (suc k) x (here e) = (s, e)
   up_mem s (suc k) x (next m) = up_mem (suc s) k x m

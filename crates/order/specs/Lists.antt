@@ -1,5 +1,5 @@
 -- Tests over lists: all, any, how many, those that pass; a place in order; the first that breaks a rule.
-use Rattle.std.specs.Prelude.{Bool, true, false, not, cond, ◌&&◌, ◌||◌, List, [], ◌∷◌, ◌++◌, ℕ, zero, suc, ◌+◌, ltb}
+use Rattle.std.specs.Prelude.{Bool, true, false, cond, ◌&&◌, ◌||◌, List, [], ◌∷◌, ◌++◌, ℕ, zero, suc, ◌+◌, ltb}
 
 -- a test as a number
 abbrev pub one : Bool → ℕ

@@ -11,7 +11,7 @@ use lib.Seq.{get_or-set_same, get_or-set_other}
 use lib.Dec.{eqb}
 use borrow.Author.Tests.{eqb-true, eqb-false}
 use Rattle.words.specs.declared.Entry.{Entry}
-use Rattle.model.specs.Layer.{at, rows_after}
+use Rattle.model.specs.Layer.{rows_after}
 use Rattle.model.specs.Raw.{entry_at, entries_at, edit_of, layer_of}
 use Rattle.words.specs.Entry.{ADD}
 use Rattle.model.specs.Meaning.{key_of}

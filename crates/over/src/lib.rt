@@ -1,4 +1,6 @@
 // The keys that a lower layer leaves, found along an upper one: two marks in the lower layer move on with its rows.
+#![tactic(auto)]
+
 ghost use Rattle.std.specs.Prelude.{◌≡◌, ◌+◌, ◌*◌, ◌-◌, ◌≤◌, ◌<◌, length, get_or};
 ghost use Rattle.model.specs.Raw.{entry_at, entries_at, layer_of};
 ghost use Rattle.words.specs.Entry.{ADD};
@@ -53,7 +55,7 @@ fn row_before(s: usize) -> usize
 }
 
 // The mark of the row before an entry's position, and that row's key.
-#[derive(Drop)]
+#[derive(Clone, Copy)]
 pub struct Last {
     pub mark: Mark,
     pub key: u64,

@@ -1,4 +1,6 @@
 // Refusals 1 to 4 of two layers over one base.
+#![tactic(auto)]
+
 ghost use Rattle.std.specs.Prelude.{◌≡◌, length};
 ghost use Rattle.words.specs.declared.Answer.TheVariants.{Done, Refused};
 ghost use Rattle.model.specs.Refusals.{first_met};

@@ -1,4 +1,6 @@
 // One layer moved past another over the same base: the refusals in their order, then the new positions.
+#![tactic(auto)]
+
 ghost use Rattle.std.specs.Prelude.{◌≡◌};
 ghost use Rattle.model.specs.Calls.{move_answer, move_slice};
 

@@ -33,7 +33,7 @@ use Rattle.theory.proofs.Edits.{set_composed}
 use Rattle.theory.proofs.Origin.{Stands, back_row, origin_base, origin_added}
 use Rattle.theory.proofs.Readback.{sound_wide}
 use Rattle.store.specs.Numbers.{entry_numbers}
-use Rattle.enter.specs.Move.{Move, entries, number}
+use Rattle.enter.specs.Move.{Move, number}
 use Rattle.write.specs.Plans.{Splices, Sets, Plans, splices, sets}
 use Rattle.write.proofs.Layers.{Written, strike_numbers, change_numbers}
 use Rattle.landing.specs.Landing.{aim, landing, changes_first}

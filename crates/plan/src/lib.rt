@@ -1,4 +1,6 @@
 // What an edit does to a layer, one splice or one value set: found by looking, with nothing written.
+#![tactic(auto)]
+
 ghost use Rattle.std.specs.Prelude.{◌≡◌, false, ◌≤◌, ◌<◌, length};
 ghost use Rattle.model.specs.Row.{key};
 ghost use Rattle.model.specs.Cell.{to};
@@ -27,7 +29,7 @@ fn eight(row: &[u64]) -> [u64; 8]
 }
 
 // The splice that adds a row, and whether its key is shown already.
-#[derive(Drop)]
+#[derive(Clone, Copy)]
 pub struct Adding {
     pub shown: bool,
     pub splice: Splice,
@@ -102,7 +104,7 @@ pub fn strike(c: usize, m: usize, layer: &[u64], keys: &[u64], r: usize) -> Spli
 }
 
 // A change: one value set, if `alone`, else a splice.
-#[derive(Drop)]
+#[derive(Clone, Copy)]
 pub struct Changing {
     pub alone: bool,
     pub value: Value,

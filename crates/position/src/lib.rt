@@ -1,4 +1,6 @@
 // Shifts and row numbers.
+#![tactic(auto)]
+
 ghost use Rattle.std.specs.Prelude.{◌≡◌, true, ◌≤◌, pos, nat_abs, ◌+ℤ◌};
 ghost use Rattle.std.specs.Int.Signed.{non_neg};
 ghost use Rattle.model.specs.Calls.{shift_answer, row_answer};

@@ -1,20 +1,49 @@
 // Reads lines from standard input, prints what they say as they are read, and the table at the end.
-ghost use Rattle.std.specs.Prelude.{◌≤◌, length};
+#![tactic(auto)]
+
+ghost use Rattle.std.specs.Prelude.{◌≤◌, length, IfOk};
+ghost use Rattle.blocks.specs.Going.{Moved};
 
 use blocks::Went;
-use libc::{STDIN_FILENO, STDOUT_FILENO};
+use std::io;
+use std::io::{Read, Write};
+use std::process::ExitCode;
 
-// Writes the first n bytes of the text, and answers whether it could.
-fn write_text(out: &[u8; 204800], n: usize) -> bool
+// Writes the first n bytes of the text.
+fn write_text(rt: &HostRuntime, out: &[u8; 204800], n: usize) -> io::Result<()>
     requires { n ≤ length out.now }
 {
     let text = &out[..];
-    io::write_all(STDOUT_FILENO, &text[..n])
+    rt.stdout().write_all(&text[..n])
+}
+
+// Reads a block, and answers how many bytes came, or the error.
+fn read_block(rt: &HostRuntime, block: &mut [u8; 4096]) -> io::Result<usize>
+    ensures { IfOk result (λ n. n ≤ 4096) }
+{
+    rt.stdin().read(block)
+}
+
+// What a read answered, as a count: -1 where it failed.
+fn count(read: &io::Result<usize>) -> isize
+    requires { IfOk read.now (λ n. n ≤ 4096) }
+    ensures { Moved 4096 result }
+{
+    match read {
+        Ok(n) => *n as isize,
+        Err(_) => -1,
+    }
+}
+
+// Says on standard error what failed and how, and that the program failed.
+fn fail(rt: &HostRuntime, what: &str, why: io::Error) -> ExitCode {
+    let said = eprintln!(rt; "kwadirumpe: {what}: {why}");
+    ExitCode::FAILURE
 }
 
 // Reads block after block, up to a number of blocks that no input has, and prints the table. Where the input cannot be read
 // or the output not written it says so and prints no more.
-fn main() {
+fn main(rt: HostRuntime) -> ExitCode {
     let mut table = [0u64; 1536];
     let mut layer = [0u64; 2560];
     let mut line = [0u8; 65];
@@ -23,7 +52,8 @@ fn main() {
     let mut fed = feed::start();
     let mut left: u64 = 1125899906842624;
     while 0 < left {
-        let got = libc::read(STDIN_FILENO, &mut block);
+        let read = read_block(&rt, &mut block);
+        let got = count(&read);
         let taken = blocks::take_some(
             got, &block, fed, &mut table, &mut layer, &mut line, &mut out,
         );
@@ -32,22 +62,28 @@ fn main() {
         left -= 1;
         match went {
             Went::On => {
-                if !write_text(&out, fed.at) {
-                    os::fail(b"kwadirumpe: the output could not be written");
-                    return;
+                if let Err(e) = write_text(&rt, &out, fed.at) {
+                    return fail(&rt, "the output could not be written", e);
                 }
             }
             Went::Over => {
                 left = 0;
             }
             Went::Failed => {
-                os::fail(b"kwadirumpe: the input could not be read, and no table is printed");
-                return;
+                if let Err(e) = read {
+                    return fail(
+                        &rt,
+                        "the input could not be read, and no table is printed",
+                        e,
+                    );
+                }
+                return ExitCode::FAILURE;
             }
         }
     }
     let n = blocks::close(fed, &mut table, &mut layer, &line, &mut out);
-    if !write_text(&out, n) {
-        os::fail(b"kwadirumpe: the output could not be written");
+    if let Err(e) = write_text(&rt, &out, n) {
+        return fail(&rt, "the output could not be written", e);
     }
+    ExitCode::SUCCESS
 }

@@ -1,4 +1,6 @@
 // The check of a file's bytes, where they stand.
+#![tactic(auto)]
+
 ghost use Rattle.std.specs.Prelude.{◌≡◌, true, ◌≤◌, length};
 ghost use Rattle.words.specs.declared.Answer.TheVariants.{Done};
 ghost use Rattle.format.specs.File.{back, entries, columns, rows, file_answer};
@@ -9,7 +11,7 @@ use words::Answer;
 const MOST_NUMBERS: usize = 5120;
 
 // The four numbers at a file's end.
-#[derive(Drop)]
+#[derive(Clone, Copy)]
 pub struct End {
     pub back: u64,
     pub entries: u64,

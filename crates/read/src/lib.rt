@@ -1,4 +1,6 @@
 // A column read through a layer into a work buffer.
+#![tactic(auto)]
+
 ghost use Rattle.std.specs.Prelude.{◌≡◌, length};
 ghost use Rattle.model.specs.Calls.{read_answer, read_slice};
 

@@ -1,4 +1,6 @@
 // New positions written over those of a layer's entries.
+#![tactic(auto)]
+
 ghost use Rattle.std.specs.Prelude.{◌≡◌, ◌++◌, ◌+◌, ◌*◌, drop};
 ghost use Rattle.model.specs.Layer.{Layer};
 ghost use Rattle.model.specs.Raw.{Held, layer_of, flat};

@@ -1,4 +1,6 @@
 // Renumber: the refusals in the table's order, then the row, which is shown, goes and comes again with another number.
+#![tactic(auto)]
+
 ghost use Rattle.std.specs.Prelude.{◌≡◌, ◌&&◌, ◌*◌, ◌≤◌, length, leb};
 ghost use Rattle.model.specs.Row.{columnwise};
 ghost use Rattle.model.specs.Raw.{layer_of};

@@ -1,4 +1,6 @@
 // The reply to an edit line.
+#![tactic(auto)]
+
 ghost use Rattle.std.specs.Prelude.{◌≡◌, ◌<◌};
 ghost use Rattle.reply.specs.Reply.{entered as Reply·entered};
 

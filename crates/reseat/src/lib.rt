@@ -1,4 +1,6 @@
 // A row that is shown goes and comes again with another number: two splices, planned and entered together.
+#![tactic(auto)]
+
 ghost use Rattle.std.specs.Prelude.{◌≡◌, length};
 ghost use Rattle.model.specs.Row.{columnwise};
 ghost use Rattle.model.specs.Raw.{layer_of};

@@ -1,4 +1,6 @@
 // Runs of numbers: copied between two slices, moved up or down within one, cleared.
+#![tactic(auto)]
+
 ghost use Rattle.std.specs.Prelude.{◌≡◌, ◌+◌, ◌-◌, ◌≤◌, length, drop, replicate};
 ghost use Rattle.std.proofs.Math.Seq.{paste};
 

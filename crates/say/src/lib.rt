@@ -1,4 +1,6 @@
 // What a call answered: the number of the answer and its value, and the numbers of a slice.
+#![tactic(auto)]
+
 ghost use Rattle.std.specs.Prelude.{◌≤◌};
 
 use numbers::get;

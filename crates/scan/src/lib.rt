@@ -1,4 +1,6 @@
 // One pass over the entries of a layer: the first that breaks a rule of form, and the adds and strikes before it.
+#![tactic(auto)]
+
 ghost use Rattle.std.specs.Prelude.{◌≡◌, ◌+◌, ◌≤◌, length, drop, eqb};
 ghost use Rattle.order.specs.Lists.{all, count};
 ghost use Rattle.model.specs.Raw.{entry_at, entries_of, Held};
@@ -8,7 +10,7 @@ ghost use Rattle.scan.specs.Scan.{follows_kind, base_good, alone_good, good, of_
 use words::Entry;
 
 // How many entries stand before the first that breaks a rule, and how many of them are adds and strikes.
-#[derive(Drop)]
+#[derive(Clone, Copy)]
 pub struct Scan {
     pub place: usize,
     pub adds: usize,

@@ -1,4 +1,6 @@
 // The table at the end: the base columns read through the layer, and its rows as text.
+#![tactic(auto)]
+
 ghost use Rattle.std.specs.Prelude.{◌≡◌, ◌+◌, ◌*◌, ◌≤◌, ◌<◌, length, take};
 ghost use Rattle.model.specs.Raw.{layer_of};
 ghost use Rattle.model.specs.Read.{read, read_column};

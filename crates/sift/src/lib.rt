@@ -1,4 +1,6 @@
 // One pass over the entries of a file, where they stand: the first that breaks a rule of form, and the adds and strikes before it.
+#![tactic(auto)]
+
 ghost use Rattle.std.specs.Prelude.{◌≡◌, ◌+◌, ◌*◌, ◌≤◌, length, drop, eqb};
 ghost use Rattle.order.specs.Lists.{all, count};
 ghost use Rattle.little.specs.Little.{numbers_at};

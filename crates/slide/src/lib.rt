@@ -1,10 +1,12 @@
 // Parts of a slice moved, each number once, and zeros where they no longer reach.
+#![tactic(auto)]
+
 ghost use Rattle.std.specs.Prelude.{◌≡◌, ◌+◌, ◌-◌, ◌≤◌, length, replicate};
 ghost use Rattle.std.proofs.Math.Seq.{paste};
 ghost use Rattle.slide.specs.Parts.{moved, Behind};
 
 // A part: the numbers from `from` up to `end`, which are to start at `to`.
-#[derive(Drop)]
+#[derive(Clone, Copy)]
 pub struct Part {
     pub from: usize,
     pub end: usize,

@@ -1,5 +1,7 @@
 // Splices entered into a layer's slice: entries replaced by one entry or by none, at one place or at two, what stands behind
 // them moved once.
+#![tactic(auto)]
+
 ghost use Rattle.std.specs.Prelude.{◌≡◌, length};
 ghost use Rattle.model.specs.Raw.{Held};
 ghost use Rattle.splice.specs.Splice.{spliced_two, BothWithin, count_two, room_answer, if_done};
@@ -8,7 +10,7 @@ use slide::Part;
 use words::{Answer, Entry};
 
 // A splice: where it begins (entry number i), how many entries go, and the entry that comes, if `comes` is 1.
-#[derive(Drop)]
+#[derive(Clone, Copy)]
 pub struct Splice {
     pub i: usize,
     pub gone: usize,

@@ -1,4 +1,6 @@
 // Refusals 1 to 4 of two layers, one over what the other shows.
+#![tactic(auto)]
+
 ghost use Rattle.std.specs.Prelude.{◌≡◌, ◌≤◌, length};
 ghost use Rattle.model.specs.Layer.{rows_after};
 ghost use Rattle.model.specs.Raw.{layer_of};

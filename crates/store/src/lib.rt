@@ -1,4 +1,6 @@
 // An entry stored in a layer's slice, and how many entries a slice has room for.
+#![tactic(auto)]
+
 ghost use Rattle.std.specs.Prelude.{◌≡◌, ◌+◌, ◌≤◌, length};
 ghost use Rattle.std.proofs.Math.Seq.{paste};
 ghost use Rattle.model.specs.Raw.{room};

@@ -1,4 +1,6 @@
 // Strike: the splice of a row that goes, planned and entered.
+#![tactic(auto)]
+
 ghost use Rattle.std.specs.Prelude.{◌≡◌};
 ghost use Rattle.model.specs.Calls.{strike_answer, strike_slice};
 

@@ -1,4 +1,6 @@
 // Whether one entry of a layer in form fits the key column, alone and after the one before it.
+#![tactic(auto)]
+
 ghost use Rattle.std.specs.Prelude.{◌≡◌, true, ◌+◌, ◌*◌, ◌-◌, ◌≤◌, ◌<◌, length, get_or};
 ghost use Rattle.model.specs.Raw.{entry_at, entries_at, edit_of};
 ghost use Rattle.words.specs.Entry.{ADD};

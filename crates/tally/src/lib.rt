@@ -1,4 +1,6 @@
 // The shift at a base position as a count over a layer's entries.
+#![tactic(auto)]
+
 ghost use Rattle.std.specs.Prelude.{◌≡◌, ◌+◌, ◌≤◌, ◌<◌};
 ghost use Rattle.std.proofs.Math.IntN.{sub_ℕ};
 ghost use Rattle.order.specs.Lists.{one, count};
@@ -17,7 +19,7 @@ fn less(a: usize, b: usize) -> i64
 }
 
 // The adds at positions up to and including s, and the strikes at positions before s.
-#[derive(Drop)]
+#[derive(Clone, Copy)]
 struct Tally {
     adds: usize,
     strikes: usize,

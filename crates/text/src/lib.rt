@@ -1,9 +1,11 @@
 // What the printing program writes into its buffer of bytes: the message of a line, and rows.
+#![tactic(auto)]
+
 ghost use Rattle.std.specs.Prelude.{◌≡◌, ◌+◌, ◌*◌, ◌≤◌, length};
 ghost use Rattle.text.specs.Text.{Wrote, text_room, number, message, row_text, most_shown, first_text};
 
 // What a line says: nothing, that it was not read, or a refusal's number.
-#[derive(Drop)]
+#[derive(Clone, Copy)]
 pub enum Said {
     Nothing,
     Unread,

@@ -48,6 +48,7 @@ use Rattle.theory.proofs.Meaning.{meaning_mem, mem_meaning, by_deed, done_not}
 
 -- lookup finds a member with the key, and in an ascending table the one that there is
 lookup_from : (b : ℕ) (T : Table) → AscFrom key b T → (r : Row) → Mem r T → lookup (key r) T ≡ row r
+lookup_from b [] a r x'' = elim x'' [ ]
 lookup_from b (x ∷ T) a r (here e) = rw (eq-eqb (key x) (key r) (sym (ap key e))) (ap row (sym e))
 lookup_from b (x ∷ T) a r (next m) =
     rw (ne_eqb (key x) (key r) (λ e. omega (arith, asc_mem key (suc (key x)) T a.1 r m)))
@@ -106,10 +107,12 @@ module _ (ds : List Deed) where
 
 adds_one : (ds : List Deed) (f : Found) (r : Row) → Mem (add r) ds → ((q : Row) → Mem (add q) ds → q ≡ r)
     → in_turn add_found ds f ≡ row r
+adds_one [] f r x'' h = elim x'' [ ]
 adds_one (d ∷ ds) f r (here e) h = rw (← e) (adds_again ds r (λ q m. h q (next m)))
 adds_one (d ∷ ds) f r (next m) h = adds_one ds (add_found d f) r m (λ q n. h q (next n))
 
 pub strikes_one : (ds : List Deed) (f : Found) (k : ℕ) → Mem (strike k) ds → in_turn strike_found ds f ≡ missing
+strikes_one [] f k x' = elim x' [ ]
 strikes_one (d ∷ ds) f k (here e) = rw (← e) (strikes_missing ds)
 strikes_one (d ∷ ds) f k (next m) = strikes_one ds (strike_found d f) k m
 

@@ -52,6 +52,7 @@ other_column p s i j f e ps h ji =
 
 cell_done : (s : ℕ) (L : Layer) (q : Row) (j : ℕ) (e : CellEdit) → AllPairs before L → Mem (at s (change j e)) L → j < length q
     → cell j (changed s L q) ≡ done e (cell j q)
+cell_done s [] q j e o x3 l = elim x3 [ ]
 cell_done s (d ∷ L) q j e o (here h) l =
     rw (← h, eq-eqb s s refl) (cell_left s L (put q j e) j (λ f m.
     other_column s s j j e f refl (ap (λ (x : Edit). before x (at s (change j f))) h ∙ o.0 (at s (change j f)) m) refl)

@@ -408,6 +408,7 @@ adds_mem s i j (x ∷ M) m = step x (λ n. adds_mem s i (suc j) M n) m
     step (at p (change l e)) ih m = later (ih m)
 
 mem_adds : (s i j : ℕ) (row : Row) (M : Layer) → At (at s (add row)) i j M → Mem i (add_numbers s j M)
+mem_adds s i j row [] x' = elim x' [ ]
 mem_adds s i j row (x ∷ M) (top e f) = rw (← e, eq-eqb s s refl) (here f)
 mem_adds s i j row (x ∷ M) (deep n) = step x (mem_adds s i (suc j) row M n)
   where

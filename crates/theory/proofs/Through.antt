@@ -94,5 +94,6 @@ module _ {A B : Type 0} (f : ℕ → List B) (g : ℕ → A → List B) (o : B) 
       go ih false e = in_right (f s) (in_right (g s x) (ih (omega tests) (omega arith)))
 
   pub shown_through : (s : ℕ) (xs : List A) (p : ℕ) (x : A) → At x p s xs → Mem o (g p x) → Mem o (through f g s xs)
+  shown_through s [] p x x4 m = elim x4 [ ]
   shown_through s (y ∷ xs) p x (top e h) m = in_right (f s) (in_left (through f g (suc s) xs) (rw (h, e) at m))
   shown_through s (y ∷ xs) p x (deep n) m = in_right (f s) (in_right (g s y) (shown_through (suc s) xs p x n m))

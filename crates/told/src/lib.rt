@@ -1,4 +1,6 @@
 // What the calls answer, turned into the numbers that C gets.
+#![tactic(auto)]
+
 ghost use Rattle.std.specs.Prelude.{◌+◌, ◌≤◌, pos, nat_abs, ◌≡◌};
 ghost use Rattle.words.specs.Answer.{shift_value};
 ghost use Rattle.told.specs.Told.{Tells, TellsShift, TellsBack, SmallAdded, TellsSeen};
@@ -8,7 +10,7 @@ use words::{Answer, Back, Shifted};
 
 // An answer: number 0 and the result, or the refusal's number and its place.
 #[repr(C)]
-#[derive(Drop)]
+#[derive(Clone, Copy)]
 pub struct Told {
     pub number: u64,
     pub value: usize,
@@ -16,7 +18,7 @@ pub struct Told {
 
 // The same with a signed result.
 #[repr(C)]
-#[derive(Drop)]
+#[derive(Clone, Copy)]
 pub struct ToldShift {
     pub number: u64,
     pub value: i64,
@@ -24,7 +26,7 @@ pub struct ToldShift {
 
 // The viewer's answer, which is no refusal: whether it is the front of the buffer, else a part of the base column; and its length.
 #[repr(C)]
-#[derive(Drop)]
+#[derive(Clone, Copy)]
 pub struct Part {
     pub front: u64,
     pub count: usize,

@@ -1,4 +1,6 @@
 // One turn of the walk along two layers: what their next entries make of each other, and where both stand then.
+#![tactic(auto)]
+
 ghost use Rattle.std.specs.Prelude.{◌≡◌, ◌+◌, ◌-◌, ◌≤◌, ◌<◌, drop};
 ghost use Rattle.model.specs.Raw.{layer_of};
 ghost use Rattle.over.specs.Over.{over};
@@ -10,7 +12,7 @@ use woven::Meets;
 
 // Where the walk stands: before entry i of the lower layer and entry j of the upper, past so many adds and strikes of the
 // lower one, with m entries left by what is passed.
-#[derive(Drop)]
+#[derive(Clone, Copy)]
 pub struct Place {
     pub i: usize,
     pub j: usize,
@@ -36,7 +38,7 @@ impl Place {
 
 // The entry that a turn leaves: none; the lower layer's as it is; the upper's at a position; the lower's, an added row, with
 // the changes of that row that the upper goes on with; the upper's, a change, over the lower's of the same cell.
-#[derive(Drop)]
+#[derive(Clone, Copy)]
 pub enum Puts {
     Nothing,
     AsItIs,
@@ -46,7 +48,7 @@ pub enum Puts {
 }
 
 // A turn: the entry that it leaves, and where the walk stands then.
-#[derive(Drop)]
+#[derive(Clone, Copy)]
 pub struct Turn {
     pub puts: Puts,
     pub to: Place,

@@ -1,4 +1,6 @@
 // Form and fit in one pass over a layer.
+#![tactic(auto)]
+
 ghost use Rattle.model.specs.Raw.{Held};
 ghost use Rattle.vet.specs.Vetted.{Vetted};
 

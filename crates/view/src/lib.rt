@@ -1,4 +1,6 @@
 // A view of a column that was read through a layer: the base column itself, or the filled front of the work buffer.
+#![tactic(auto)]
+
 ghost use Rattle.std.specs.Prelude.{◌≡◌, length};
 ghost use Rattle.order.specs.Lists.{any};
 ghost use Rattle.model.specs.Raw.{Held, layer_of};
@@ -38,7 +40,7 @@ fn touched(c: usize, m: usize, layer: &[u64], j: usize) -> bool
 
 // What the viewer hands back, without its reference: all numbers of the base column, so many of the front of the buffer,
 // or nothing, where reading is refused.
-#[derive(Drop)]
+#[derive(Clone, Copy)]
 pub enum Seen {
     Base(usize),
     Front(usize),

@@ -1,4 +1,6 @@
 // One walk along two layers: the lowest entry of X in conflict with Y, and X's new positions.
+#![tactic(auto)]
+
 ghost use Rattle.std.specs.Prelude.{◌≡◌, ◌≤◌, ◌<◌, length, drop};
 ghost use Rattle.model.specs.Raw.{Held, layer_of};
 ghost use Rattle.model.specs.Conflict.{met, conflict_place};
@@ -11,7 +13,7 @@ use head::Head;
 use words::Entry;
 
 // A place in a layer: the entry at a cursor, and the adds and strikes before it.
-#[derive(Drop)]
+#[derive(Clone, Copy)]
 pub struct Mark {
     pub here: Cursor,
     pub adds: usize,

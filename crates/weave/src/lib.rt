@@ -1,4 +1,6 @@
 // Two layers woven into one: the entries that they make together, counted, and written to the front of a slice where asked.
+#![tactic(auto)]
+
 ghost use Rattle.std.specs.Prelude.{◌≡◌, true, ◌∷◌, ◌+◌, ◌*◌, ◌-◌, ◌≤◌, length, take, drop};
 ghost use Rattle.model.specs.Raw.{entry_at, layer_of, flat};
 ghost use Rattle.woven.specs.Woven.{patched, woven_layer};

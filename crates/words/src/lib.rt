@@ -1,4 +1,6 @@
 // The words of the scope that code and contracts share: an entry and its kinds, the limits, a refusal, the answers.
+#![tactic(auto)]
+
 ghost use Rattle.std.specs.Prelude.{◌≡◌};
 ghost use Rattle.words.specs.declared.Answer.TheVariants.{Refused};
 ghost use Rattle.words.specs.Answer.{refusal};
@@ -13,7 +15,7 @@ pub const MOST_ENTRIES: usize = 512;
 pub const MOST_ROWS: usize = 4096;
 
 // One entry of a layer: its position, its kind and its values, of which the first c count.
-#[derive(Drop)]
+#[derive(Clone, Copy)]
 pub struct Entry {
     pub pos: u64,
     pub kind: u64,
@@ -60,28 +62,28 @@ impl Entry {
 }
 
 // A refusal: its number in the scope's table, and its place.
-#[derive(Drop)]
+#[derive(Clone, Copy)]
 pub struct Refusal {
     pub number: u64,
     pub place: usize,
 }
 
 // What most calls answer: a count (rows, entries, a row number; 0 where there is nothing to count), or a refusal.
-#[derive(Drop)]
+#[derive(Clone, Copy)]
 pub enum Answer {
     Done(usize),
     Refused(Refusal),
 }
 
 // What the shift call answers.
-#[derive(Drop)]
+#[derive(Clone, Copy)]
 pub enum Shifted {
     By(i64),
     Refused(Refusal),
 }
 
 // What the way back from a row number answers: base row s, or the added entry number i.
-#[derive(Drop)]
+#[derive(Clone, Copy)]
 pub enum Back {
     Base(usize),
     Added(usize),

@@ -134,6 +134,7 @@ module _ (K : List ℕ) where
   keys_from b (e ∷ L) o h = (h e (here refl), keys_from (key_of K e) L o.1 (keys_on e L o))
 
   keys_least : (b : ℕ) (L : Layer) → KeysFrom b L → (e : Edit) → Mem e L → b ≤ key_of K e
+  keys_least b [] o e x'' = elim x'' [ ]
   keys_least b (x ∷ L) o e (here h) = omega (arith, o.0, ap (key_of K) h)
   keys_least b (x ∷ L) o e (next m) = omega (arith, o.0, keys_least (key_of K x) L o.1 e m)
 

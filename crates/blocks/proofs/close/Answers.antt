@@ -1,0 +1,9 @@
+-- `blocks::close` meets its contract: the table stands behind what the last line says.
+-- Assumes nothing.
+use Rattle.blocks.proofs.Blocks.{closed_text}
+use Rattle.blocks.proofs.close.Goals as goal
+
+pub returns : goal.returns
+returns c =
+    let v = c.end_input-last in
+    closed_text v.new.table _ _ _ _ v.ensures.0 v.ensures.1 c.finish.ensures

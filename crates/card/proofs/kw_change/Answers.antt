@@ -1,0 +1,10 @@
+-- `card::kw_change` meets its contract: the two numbers are those of `change::change`'s answer, and the slice is as it left it.
+-- Assumes nothing.
+use mathlib.Core.Path.{◌∙◌, ap}
+use Rattle.words.specs.Answer.{number_of, value_of}
+use Rattle.card.proofs.kw_change.Goals as goal
+
+pub returns : goal.returns
+returns c =
+    let f = c.change.ensures in
+    ((c.tell.ensures.0 ∙ ap number_of f.0, c.tell.ensures.1 ∙ ap value_of f.0), f.1)

@@ -1,0 +1,10 @@
+-- `reply::entered` meets its contract, case by case.
+-- Assumes nothing.
+
+use Rattle.reply.proofs.entered.Goals as goal
+
+pub returns-in-Done : goal.returns-in-Done
+returns-in-Done c = rw c.in-Done.is
+
+pub returns-in-Refused : goal.returns-in-Refused
+returns-in-Refused c = rw c.in-Refused.is

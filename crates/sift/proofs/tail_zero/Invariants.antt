@@ -1,0 +1,18 @@
+-- `sift::tail_zero` meets its contract: all values are zero if those passed were and those from j on are.
+-- Assumes nothing.
+use mathlib.Core.Path.{◌≡◌}
+use mathlib.Core.Bool.{◌&&◌}
+use Prim.Native.Nat.{◌-◌}
+use lib.Dec.{eqb}
+use lib.ListN.{drop}
+use Rattle.order.specs.Lists.{all}
+use Rattle.little.specs.Little.{numbers_at}
+use Rattle.sift.proofs.tail_zero.Given as goal
+
+abbrev pub invariant-loop-j : goal.invariant-loop-j
+invariant-loop-j l =
+    all (λ v. eqb v 0) (drop 1 (numbers_at l.c l.at l.file)) ≡ (l.zero && all (λ v. eqb v 0) (drop l.j (numbers_at l.c l.at l.file)))
+
+abbrev pub decreases-loop-j : goal.decreases-loop-j
+decreases-loop-j l =
+    l.c - l.j

@@ -1,0 +1,10 @@
+-- `tally::less` meets its contract: the difference of two small numbers fits a signed integer.
+-- Assumes nothing.
+use Rattle.tally.proofs.Signed.{less_fits, less_read}
+use Rattle.tally.proofs.less.Goals as goal
+
+pub overflow_sub-result : goal.overflow_sub-result
+overflow_sub-result c = less_fits c.args.a c.args.b c.requires.0 c.requires.1
+
+pub returns : goal.returns
+returns c = less_read c.args.a c.args.b c.requires.0 c.requires.1

@@ -1,0 +1,177 @@
+-- `weave::put` meets its contract: where the walk writes, the entry that the turn leaves is copied, at its position or with
+-- changes made to it.
+-- Assumes nothing.
+use native.Mathlib.Omega.{arith}
+use mathlib.Core.Path.{◌≡◌, refl, sym, ap, subst, ◌∙◌}
+use mathlib.Core.Bool.{Bool, true}
+use mathlib.Core.List.{List, [], ◌∷◌}
+use Prim.Native.Nat.{ℕ, ◌+◌, ◌*◌, ◌-◌, ◌≤◌}
+use lib.ListN.{length, take, drop}
+use borrow.Rule.Slice.PartMut.{put_mid}
+use Rattle.model.specs.Layer.{Layer}
+use Rattle.words.specs.declared.Entry.{Entry}
+use Rattle.model.specs.Raw.{entry_at, layer_of, flat}
+use Rattle.scan.proofs.Laws.{vals_length}
+use Rattle.turn.specs.declared.Place.{Place}
+use Rattle.turn.specs.declared.Puts.{Puts}
+use Rattle.turn.specs.declared.Puts.TheVariants.{AsItIs, UpperAt, Changed, Fused}
+use Rattle.turn.specs.Turn.{left}
+use Rattle.woven.specs.Woven.{patched}
+use Rattle.weave.specs.Written.{Put, PutIf, Row, Leaves}
+use Rattle.weave.proofs.Patching.{patched_length}
+use Rattle.weave.proofs.Buffer.{put_none, put_wrote, values_part, put_values}
+use Rattle.weave.proofs.Putting.{low, lower_off, upper_off, offset, row, lower_room, lower_put, upper_room, upper_put, both_room, changed_put, fused_room, fused_put, flat_none}
+use Rattle.weave.proofs.put.Goals as goal
+
+-- the match tells which entry is left
+taken : {write : Bool} {c mr : ℕ} {r : List ℕ} {mw : ℕ} {w : List ℕ} {k : Place} {puts p : Puts} {len : ℕ}
+    → Leaves write c mr r mw w k puts len → puts ≡ p → Leaves write c mr r mw w k p len
+taken {write} {c} {mr} {r} {mw} {w} {k} {puts} {p} {len} g e =
+    subst (λ (q : Puts). Leaves write c mr r mw w k q len) e g
+
+-- what is written is what the turn leaves
+shows : (write : Bool) (c : ℕ) (X Y : Layer) (puts p : Puts) (ys old : List ℕ) (o : ℕ) (new : List ℕ) → write ≡ true
+    → puts ≡ p → flat c (left p X Y) ≡ ys → Put ys old o new → PutIf write (flat c (left puts X Y)) old o new
+shows write c X Y puts p ys old o new h e n q =
+    put_wrote write (flat c (left puts X Y)) old o new h
+    (subst (λ (zs : List ℕ). Put zs old o new) (sym (ap (λ (x : Puts). flat c (left x X Y)) e ∙ n)) q)
+
+-- the lower layer's added row is written, and its values are lent
+module _ {write : Bool} {c mr : ℕ} {r : List ℕ} {mw : ℕ} {w : List ℕ} {k : Place} (out mid : List ℕ)
+    (g : Leaves write c mr r mw w k Changed (length out)) (h : write ≡ true) where
+  abbrev x : Entry
+  x = entry_at c (k.i * (c + 2)) r
+
+  abbrev y : Entry
+  y = entry_at c (k.j * (c + 2)) w
+
+  abbrev o : ℕ
+  o = k.m * (c + 2)
+
+  vals : length x.vals ≡ c
+  vals = vals_length c (k.i * (c + 2)) r (both_room _ _ _ _ _ _ _ _ g).0
+
+  space : o + (c + 2) ≤ length out
+  space = (changed_put _ _ _ _ _ _ _ _ g).space h
+
+  module _ (p : ℕ) (ep : p ≡ x.pos) (written : Put (p ∷ x.kind ∷ x.vals) out o mid) where
+    first : Put (x.pos ∷ x.kind ∷ x.vals) out o mid
+    first = subst (λ (n : ℕ). Put (n ∷ x.kind ∷ x.vals) out o mid) ep written
+
+    lent : take (o + 2 + c - (o + 2)) (drop (o + 2) mid) ≡ x.vals
+    lent = values_part c x.pos x.kind o x.vals x.vals out mid out first vals space
+
+    row_lent : Row c mw w (record { i = k.j; at = k.j * (c + 2) }) (length (take (o + 2 + c - (o + 2)) (drop (o + 2) mid)))
+    row_lent =
+        subst (λ (n : ℕ). Row c mw w (record { i = k.j; at = k.j * (c + 2) }) n) (sym (ap length lent ∙ vals)) (row g)
+
+    -- and the changes are made to them
+    changes : (q : ℕ) (ys : List ℕ) → q ≡ y.pos
+        → ys ≡ patched q (drop k.j (layer_of c mw w)) (take (o + 2 + c - (o + 2)) (drop (o + 2) mid))
+        → Put (x.pos ∷ x.kind ∷ patched y.pos (drop k.j (layer_of c mw w)) x.vals) out o (put_mid (o + 2) (o + 2 + c - (o + 2)) mid ys)
+    changes q ys eq e =
+        let W = drop k.j (layer_of c mw w) in
+        put_values c x.pos x.kind o x.vals (patched y.pos W x.vals) out mid _ first vals space
+        (patched_length y.pos W x.vals ∙ vals)
+        (ap (put_mid (o + 2) (o + 2 + c - (o + 2)) mid) (e ∙ (λ i. patched (eq i) W (lent i))))
+
+pub overflow_add-wide : goal.overflow_add-wide
+overflow_add-wide c = omega (arith, (low c.requires).held.columns)
+
+pub overflow_mul-at : goal.overflow_mul-at
+overflow_mul-at c = omega (arith, lower_off c.requires)
+
+pub overflow_mul-bt : goal.overflow_mul-bt
+overflow_mul-bt c = omega (arith, upper_off c.requires)
+
+pub overflow_mul-o : goal.overflow_mul-o
+overflow_mul-o c = omega (arith, offset c.requires)
+
+-- the lower layer's entry as it is
+pub pos_at-requires : goal.pos_at-requires
+pos_at-requires c = lower_room _ _ _ _ _ _ _ _ (taken c.requires c.in-AsItIs.is)
+
+pub put_entry-requires : goal.put_entry-requires
+put_entry-requires c =
+    let g = taken c.requires c.in-AsItIs.is in
+    (lower_room _ _ _ _ _ _ _ _ g, (lower_put _ _ _ _ _ _ _ _ g).space c.if-write.true, (low g).held.some)
+
+pub returns-then-write : goal.returns-then-write
+returns-then-write c =
+    let a = c.args in
+    let x = entry_at a.c (a.k.i * (a.c + 2)) a.r.now in
+    let f = c.put_entry in
+    shows a.write a.c _ _ a.puts AsItIs _ a.out.now (a.k.m * (a.c + 2)) f.new.out c.if-write.true c.in-AsItIs.is
+    (lower_put _ _ _ _ _ _ _ _ (taken c.requires c.in-AsItIs.is)).numbers
+    (subst (λ (n : ℕ). Put (n ∷ x.kind ∷ x.vals) a.out.now (a.k.m * (a.c + 2)) f.new.out) c.pos_at.ensures f.ensures)
+
+-- the upper layer's at a position
+pub put_entry-requires-then-write-2 : goal.put_entry-requires-then-write-2
+put_entry-requires-then-write-2 c =
+    let g = taken c.requires c.in-UpperAt.is in
+    (upper_room _ _ _ _ _ _ _ _ _ g, (upper_put _ _ _ _ _ _ _ _ _ g).space c.if-write-2.true, (low g).held.some)
+
+pub returns-then-write-2 : goal.returns-then-write-2
+returns-then-write-2 c =
+    let a = c.args in
+    let f = c.put_entry-then-write-2 in
+    shows a.write a.c _ _ a.puts (UpperAt c.in-UpperAt.p) _ a.out.now (a.k.m * (a.c + 2)) f.new.out c.if-write-2.true
+    c.in-UpperAt.is (upper_put _ _ _ _ _ _ _ _ _ (taken c.requires c.in-UpperAt.is)).numbers f.ensures
+
+-- the lower layer's added row with the upper's changes
+pub pos_at-requires-then-write-3 : goal.pos_at-requires-then-write-3
+pos_at-requires-then-write-3 c = (both_room _ _ _ _ _ _ _ _ (taken c.requires c.in-Changed.is)).0
+
+pub put_entry-requires-then-write-3 : goal.put_entry-requires-then-write-3
+put_entry-requires-then-write-3 c =
+    let g = taken c.requires c.in-Changed.is in
+    ((both_room _ _ _ _ _ _ _ _ g).0, (changed_put _ _ _ _ _ _ _ _ g).space c.if-write-3.true, (low g).held.some)
+
+pub pos_at-requires-then-write-3-2 : goal.pos_at-requires-then-write-3-2
+pos_at-requires-then-write-3-2 c = (both_room _ _ _ _ _ _ _ _ (taken c.requires c.in-Changed.is)).1
+
+pub patch-requires : goal.patch-requires
+patch-requires c =
+    row_lent c.args.out.now c.put_entry-then-write-3.new.out (taken c.requires c.in-Changed.is) c.if-write-3.true _
+    c.pos_at-then-write-3.ensures c.put_entry-then-write-3.ensures
+
+pub returns-then-write-3 : goal.returns-then-write-3
+returns-then-write-3 c =
+    let a = c.args in
+    let g = taken c.requires c.in-Changed.is in
+    let f = c.put_entry-then-write-3 in
+    shows a.write a.c _ _ a.puts Changed _ a.out.now (a.k.m * (a.c + 2)) _ c.if-write-3.true c.in-Changed.is
+    (changed_put _ _ _ _ _ _ _ _ g).numbers
+    (changes a.out.now f.new.out g c.if-write-3.true _ c.pos_at-then-write-3.ensures f.ensures _ c.patch.new.row
+    c.pos_at-then-write-3-2.ensures c.patch.ensures)
+
+-- the upper layer's change over the lower's
+pub pos_at-requires-then-write-4 : goal.pos_at-requires-then-write-4
+pos_at-requires-then-write-4 c = (fused_room _ _ _ _ _ _ _ _ (taken c.requires c.in-Fused.is)).0
+
+pub put_entry-requires-then-write-4 : goal.put_entry-requires-then-write-4
+put_entry-requires-then-write-4 c =
+    let g = taken c.requires c.in-Fused.is in
+    ((fused_room _ _ _ _ _ _ _ _ g).1, (fused_put _ _ _ _ _ _ _ _ g).space c.if-write-4.true, (low g).held.some)
+
+pub returns-then-write-4 : goal.returns-then-write-4
+returns-then-write-4 c =
+    let a = c.args in
+    let z = entry_at a.c (a.k.j * (a.c + 2)) a.w.now in
+    let f = c.put_entry-then-write-4 in
+    shows a.write a.c _ _ a.puts Fused _ a.out.now (a.k.m * (a.c + 2)) f.new.out c.if-write-4.true c.in-Fused.is
+    (fused_put _ _ _ _ _ _ _ _ (taken c.requires c.in-Fused.is)).numbers
+    (subst (λ (n : ℕ). Put (n ∷ z.kind ∷ z.vals) a.out.now (a.k.m * (a.c + 2)) f.new.out) c.pos_at-then-write-4.ensures
+    f.ensures)
+
+pub returns-in-Nothing : goal.returns-in-Nothing
+returns-in-Nothing c =
+    let a = c.args in
+    let R = drop a.k.i (layer_of a.c a.mr a.r.now) in
+    let W = drop a.k.j (layer_of a.c a.mw a.w.now) in
+    let none : flat a.c (left a.puts R W) ≡ [] = ap (λ (x : Puts). flat a.c (left x R W)) c.in-Nothing.is ∙ flat_none a.c in
+    record {
+      wrote = λ _. subst (λ (zs : List ℕ). Put zs a.out.now (a.k.m * (a.c + 2)) a.out.now) (sym none)
+          (put_none a.out.now (a.k.m * (a.c + 2)));
+      kept = λ _. refl;
+    }
