@@ -1,7 +1,7 @@
 // Reads lines from standard input, prints what they say as they are read, and the table at the end.
 #![tactic(auto)]
 
-ghost use Rattle.std.specs.Prelude.{◌≤◌, length, IfOk};
+ghost use Rattle.std.specs.Prelude.{◌≡◌, ◌≤◌, length, pos, negsuc, IfOk, MatchResult};
 ghost use Rattle.blocks.specs.Going.{Moved};
 
 use blocks::Went;
@@ -24,10 +24,11 @@ fn read_block(rt: &HostRuntime, block: &mut [u8; 4096]) -> io::Result<usize>
     rt.stdin().read(block)
 }
 
-// What a read answered, as a count: -1 where it failed.
+// What a read answered, as a count: -1 where it failed, and only there.
 fn count(read: &io::Result<usize>) -> isize
     requires { IfOk read.now (λ n. n ≤ 4096) }
-    ensures { Moved 4096 result }
+    ensures moved { Moved 4096 result }
+    ensures value { MatchResult read.now (λ n. result ≡ pos n) (λ e. result ≡ negsuc 0) }
 {
     match read {
         Ok(n) => *n as isize,
