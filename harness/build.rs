@@ -12,9 +12,14 @@ fn main() {
     let top = Path::new(&here).parent().unwrap().to_path_buf();
     let out = std::env::var("OUT_DIR").unwrap();
     println!("cargo:rerun-if-changed=c");
+    // all of a crate but what rt makes of it, in out/
     for it in std::fs::read_dir(top.join("crates")).unwrap() {
-        // what rt makes is in out/
-        println!("cargo:rerun-if-changed={}/src", it.unwrap().path().display());
+        for part in ["src", "specs", "proofs"] {
+            let part = it.as_ref().unwrap().path().join(part);
+            if part.exists() {
+                println!("cargo:rerun-if-changed={}", part.display());
+            }
+        }
     }
     println!("cargo:rerun-if-changed=../crates.txt");
     run("rt", &["lib"], &top.join("crates/card"));
