@@ -5,13 +5,14 @@ use mathlib.Core.Path.{◌≡◌}
 use mathlib.Core.Bool.{cond}
 use mathlib.Core.List.{List, [], ◌∷◌}
 use lib.Dec.{leb}
-use Rattle.words.specs.declared.Back.TheVariants as backed
+use Rattle.words.specs.declared.Cause.TheVariants.{NoSuchRow}
+use Rattle.std.specs.Prelude.{Ok, Err}
 use Rattle.model.specs.Layer.{Layer, rows_after}
 use Rattle.model.specs.Raw.{layer_of}
 use Rattle.model.specs.Position.{back}
 use Rattle.model.specs.Refusals.{bad_row}
 use Rattle.words.specs.Answer.{refusal}
-use Rattle.model.specs.Calls.{form_answer, back_answer, origin_answer}
+use Rattle.model.specs.Calls.{form_answer, back_answer}
 use Rattle.theory.proofs.Stages.{onward}
 use Rattle.form.proofs.Answers.{after_form_lem}
 
@@ -20,7 +21,7 @@ module _ (c n m : ℕ) (xs : List ℕ) (r : ℕ) where
   L = layer_of c m xs
 
   pub back_checked : back_answer c n m xs r
-      ≡ onward backed.Refused (form_answer c n m xs)
-      (cond (leb (rows_after n L) r) (backed.Refused (refusal 5 0)) (origin_answer (back n L r)))
+      ≡ onward Err (form_answer c n m xs)
+      (cond (leb (rows_after n L) r) (Err (refusal NoSuchRow 0)) (Ok (back n L r)))
   unfolding back_answer
-  back_checked = after_form_lem backed.Refused c n m xs (bad_row n L r ∷ []) (origin_answer (back n L r))
+  back_checked = after_form_lem Err c n m xs (bad_row n L r ∷ []) (Ok (back n L r))

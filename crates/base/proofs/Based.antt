@@ -8,6 +8,7 @@ use native.Mathlib.Omega.{arith}
 use lib.ListN.{set}
 use lib.Seq.{take-set-le, take-set-lt, drop-set-lt}
 use borrow.Author.Tests.{lt-leb}
+use Rattle.words.specs.declared.Cause.TheVariants.{KeysUnordered}
 use Rattle.text.specs.declared.Said.TheVariants.{Unread, Refused}
 use Rattle.base.specs.declared.Counts.{Counts}
 use Rattle.base.specs.declared.Reply.{Reply}
@@ -35,7 +36,7 @@ module _ (g s m : ℕ) (d : Counts) (x : Sheet) (r : Reply) where
   based_shut e i = record { reply = rw e i; sheet = rw e }
 
   -- the key is not above the last
-  pub based_low : shut d ≡ false → below_last g d.rows x.keys ≡ true → r ≡ stay d (Refused 3) → Based g s m d x r x
+  pub based_low : shut d ≡ false → below_last g d.rows x.keys ≡ true → r ≡ stay d (Refused KeysUnordered) → Based g s m d x r x
   based_low e l i = record { reply = rw (e, l) i; sheet = rw (e, l) }
 
   -- the row is taken

@@ -1,8 +1,9 @@
 -- A table with room for 512 base rows in three columns, the rows that stand in it, and what a base row does to it and says.
-use Rattle.std.specs.Prelude.{◌≡◌, Bool, true, false, not, cond, ◌||◌, List, [], ◌∷◌, ℕ, ◌+◌, ◌-◌, ◌*◌, ◌≤◌, length, get_or, take, drop, set, leb, eqb}
+use Rattle.words.specs.declared.Cause.TheVariants.{KeysUnordered}
+use Rattle.std.specs.Prelude.{◌≡◌, Some, None, Bool, true, false, not, cond, ◌||◌, List, [], ◌∷◌, ℕ, ◌+◌, ◌-◌, ◌*◌, ◌≤◌, length, get_or, take, drop, set, leb, eqb}
 use Rattle.model.specs.Row.{Table}
 use Rattle.text.specs.declared.Said.{Said}
-use Rattle.text.specs.declared.Said.TheVariants.{Nothing, Unread, Refused}
+use Rattle.text.specs.declared.Said.TheVariants.{Unread, Refused}
 use Rattle.base.specs.declared.Counts.{Counts}
 use Rattle.base.specs.declared.Reply.{Reply}
 
@@ -56,19 +57,19 @@ shut d = d.edited || leb most_base d.rows
 abbrev pub stay : Counts → Said → Reply
 stay d said = record {
   counts = record { rows = d.rows; entries = d.entries; edited = d.edited; lines = d.lines + 1 };
-  said = said;
+  said = Some said;
 }
 
 -- a base row more
 abbrev pub grown : Counts → Reply
 grown d = record {
   counts = record { rows = d.rows + 1; entries = d.entries; edited = d.edited; lines = d.lines + 1 };
-  said = Nothing;
+  said = None;
 }
 
 -- the reply to a base row with key g, and whether the row is taken
 abbrev pub base_reply : ℕ → Counts → List ℕ → Reply
-base_reply g d keys = cond (shut d) (stay d Unread) (cond (below_last g d.rows keys) (stay d (Refused 3)) (grown d))
+base_reply g d keys = cond (shut d) (stay d Unread) (cond (below_last g d.rows keys) (stay d (Refused KeysUnordered)) (grown d))
 
 abbrev pub base_taken : ℕ → Counts → List ℕ → Bool
 base_taken g d keys = not (shut d || below_last g d.rows keys)

@@ -5,6 +5,7 @@ ghost use Rattle.std.specs.Prelude.{◌≡◌, List, ℕ, ◌≤◌, ◌<◌};
 ghost use Rattle.base.specs.Base.{most_base, column_of, sheet_of, stay as Base·stay, below_last, Based};
 
 use text::Said;
+use words::Cause;
 
 // What is counted: base rows that stand, entries of the layer, whether an edit line was read, and lines read.
 #[derive(Clone, Copy)]
@@ -15,11 +16,11 @@ pub struct Counts {
     pub lines: u64,
 }
 
-// The counts after a line, and what the line says.
+// The counts after a line, and what is said of it, if anything.
 #[derive(Clone, Copy)]
 pub struct Reply {
     pub counts: Counts,
-    pub said: Said,
+    pub said: Option<Said>,
 }
 
 // The reply to a line that changes nothing.
@@ -34,7 +35,7 @@ pub fn stay(counts: Counts, said: Said) -> Reply
             edited: counts.edited,
             lines: counts.lines + 1,
         },
-        said,
+        said: Some(said),
     }
 }
 
@@ -63,7 +64,7 @@ pub fn base_row(counts: Counts, g: u64, s: u64, m: u64, table: &mut [u64; 1536])
         return stay(counts, Said::Unread);
     }
     if not_above(g, n, table) {
-        return stay(counts, Said::Refused(3));
+        return stay(counts, Said::Refused(Cause::KeysUnordered));
     }
     table[n] = g;
     table[512 + n] = s;
@@ -75,6 +76,6 @@ pub fn base_row(counts: Counts, g: u64, s: u64, m: u64, table: &mut [u64; 1536])
             edited: counts.edited,
             lines: counts.lines + 1,
         },
-        said: Said::Nothing,
+        said: None,
     }
 }

@@ -8,7 +8,6 @@ use lib.ListN.{take}
 use contract.Lifetimes.{Lfts}
 use denote.Triple.Clauses.{AtExit}
 use borrow.Fn.Kinds.{Dens, ended_of}
-use Rattle.io.specs.Counts.{clamp_len}
 use Rattle.base.specs.Base.{Sheet}
 use Rattle.intake.specs.Reading.{Reading, reading_of}
 use Rattle.feed.specs.Input.{nothing_read}
@@ -16,6 +15,7 @@ use Rattle.console.specs.Told.{printed}
 use Rattle.console.specs.Run.{end_to_end, Run, next}
 use Rattle.console.proofs.Run.{run_printed}
 use Rattle.blocks.specs.declared.Taken.{Taken}
+use Rattle.blocks.specs.Going.{came}
 use Rattle.blocks.proofs.take_some.Kinds as some_kinds
 use Rattle.blocks.proofs.take_some.Reads as some_contract
 use Rattle.blocks.proofs.close.Kinds as close_kinds
@@ -32,7 +32,7 @@ module _ (κs : Lfts 5) (a : Dens κs some_kinds.ps) (s : AtExit (ended_of 5 som
       reading_of r.fed s.1.1.1.0.now s.1.1.1.1.0.now s.1.1.1.1.1.0.now s.1.1.1.1.1.1.0.now
 
   pub block_next : {blocks texts : List (List ℕ)} {k : Reading} → some_contract.Post κs a r s → Run blocks texts behind k →
-      Run (take (clamp_len a.0 4096) a.1.0.now ∷ blocks) (take r.fed.at s.1.1.1.1.1.1.0.now ∷ texts) before k
+      Run (take (came a.0) a.1.0.now ∷ blocks) (take r.fed.at s.1.1.1.1.1.1.0.now ∷ texts) before k
   block_next p run = next p.0.took run
 
 -- the end of the input behind them all

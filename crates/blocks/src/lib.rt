@@ -26,22 +26,20 @@ pub struct Taken {
 }
 
 // How a read went that answered so.
-fn how(got: isize) -> Went
-    requires { Moved 4096 got }
+fn how(got: Option<usize>) -> Went
     ensures { result ≡ went_by got }
 {
-    if got < 0 {
-        return Went::Failed;
+    match got {
+        None => Went::Failed,
+        Some(0) => Went::Over,
+        Some(_) => Went::On,
     }
-    if 0 < got {
-        return Went::On;
-    }
-    Went::Over
 }
 
-// Takes all of the bytes of a block that a read filled and answered so; what they say stands in the text.
+// Takes all of the bytes of a block that a read filled, of which so many came, or none where it failed; what they say
+// stands in the text.
 pub fn take_some(
-    got: isize,
+    got: Option<usize>,
     block: &[u8; 4096],
     fed: Feed,
     table: &mut [u64; 1536],
@@ -55,9 +53,8 @@ pub fn take_some(
         result.fed (reading_of result.fed table.new layer.new line.new out.new)
         × Wrote (take result.fed.at out.new) out.old 0 result.fed.at out.new }
 {
-    let n = io::count(got, block);
-    let bytes = &block[..];
-    let next = feed::take_block(fed, &bytes[..n], table, layer, line, out);
+    let n = got.unwrap_or(0);
+    let next = feed::take_block(fed, &block[..n], table, layer, line, out);
     Taken {
         went: how(got),
         fed: next,

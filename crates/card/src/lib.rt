@@ -37,13 +37,13 @@ ghost use Rattle.format.specs.File.{
 };
 ghost use Rattle.told.specs.Told.{Tells, TellsShift, TellsBack, TellsPart};
 
-use told::{Part, Told, ToldShift, tell};
+use told::{Part, Told, ToldShift};
 
 #[unsafe(no_mangle)]
 pub extern "C" fn kw_fit(c: usize, m: usize, layer: &[u64], keys: &[u64]) -> Told
     ensures { Tells result (fit_answer c m layer.now keys.now) }
 {
-    tell(fit::fit(c, m, layer, keys))
+    fit::fit(c, m, layer, keys).into()
 }
 
 #[unsafe(no_mangle)]
@@ -58,7 +58,7 @@ pub extern "C" fn kw_read(
     ensures { let L = layer.now in let B = base.now in let O = out.old in
         Tells result (read_answer c m L B j (length O)) × (out.new ≡ read_slice c m L B j O) }
 {
-    tell(read::read(c, m, layer, base, j, out))
+    read::read(c, m, layer, base, j, out).into()
 }
 
 // Which part the viewer hands back.
@@ -74,7 +74,7 @@ pub extern "C" fn kw_view(
     ensures { let B = base.now in
         TellsPart result (length B) (view_part c m layer.now B j (length out.now)) }
 {
-    told::tell_part(view::view_part(c, m, layer, base, j, out.len()))
+    view::view_part(c, m, layer, base, j, out.len()).into()
 }
 
 #[unsafe(no_mangle)]
@@ -88,7 +88,7 @@ pub extern "C" fn kw_shift_at(c: usize, n: usize, m: usize, layer: &[u64], s: us
 pub extern "C" fn kw_row(c: usize, n: usize, m: usize, layer: &[u64], s: usize) -> Told
     ensures { Tells result (row_answer c n m layer.now s) }
 {
-    tell(position::row(c, n, m, layer, s))
+    position::row(c, n, m, layer, s).into()
 }
 
 // Back from row number r: value s for base row s, 65536 + i for the added entry number i.
@@ -104,7 +104,7 @@ pub extern "C" fn kw_add(c: usize, m: usize, layer: &mut [u64], keys: &[u64], ro
     ensures { let L = layer.old in let K = keys.now in let R = row.now in
         Tells result (add_answer c m L K R) × (layer.new ≡ add_slice c m L K R) }
 {
-    tell(add::add(c, m, layer, keys, row))
+    add::add(c, m, layer, keys, row).into()
 }
 
 #[unsafe(no_mangle)]
@@ -112,7 +112,7 @@ pub extern "C" fn kw_strike(c: usize, m: usize, layer: &mut [u64], keys: &[u64],
     ensures { let L = layer.old in let K = keys.now in
         Tells result (strike_answer c m L K r) × (layer.new ≡ strike_slice c m L K r) }
 {
-    tell(strike::strike(c, m, layer, keys, r))
+    strike::strike(c, m, layer, keys, r).into()
 }
 
 #[unsafe(no_mangle)]
@@ -128,7 +128,7 @@ pub extern "C" fn kw_change(
     ensures { let L = layer.old in let K = keys.now in
         Tells result (change_answer c m L K r j v) × (layer.new ≡ change_slice c m L K r j v) }
 {
-    tell(change::change(c, m, layer, keys, r, j, v))
+    change::change(c, m, layer, keys, r, j, v).into()
 }
 
 #[unsafe(no_mangle)]
@@ -144,7 +144,7 @@ pub extern "C" fn kw_renumber(
     ensures { let L = layer.old in let B = table.now in
         Tells result (renumber_answer c n m L B r g) × (layer.new ≡ renumber_slice c n m L B r g) }
 {
-    tell(renumber::renumber(c, n, m, layer, table, r, g))
+    renumber::renumber(c, n, m, layer, table, r, g).into()
 }
 
 #[unsafe(no_mangle)]
@@ -161,7 +161,7 @@ pub extern "C" fn kw_combine(
         let O = out.old in
         Tells result (combine_answer c K mr R mw W (length O)) × (out.new ≡ combine_slice c K mr R mw W O) }
 {
-    tell(combine::combine(c, keys, mr, r, mw, w, out))
+    combine::combine(c, keys, mr, r, mw, w, out).into()
 }
 
 #[unsafe(no_mangle)]
@@ -176,7 +176,7 @@ pub extern "C" fn kw_move(
     ensures { let K = keys.now in let X = x.old in let Y = y.now in
         Tells result (move_answer c K mx X my Y) × (x.new ≡ move_slice c K mx X my Y) }
 {
-    tell(pass::move_past(c, keys, mx, x, my, y))
+    pass::move_past(c, keys, mx, x, my, y).into()
 }
 
 // The refusal's number of a file, 0 where it is accepted.
@@ -184,7 +184,7 @@ pub extern "C" fn kw_move(
 pub extern "C" fn kw_file_check(file: &[u8]) -> u64
     ensures { result ≡ number_of (file_answer file.now) }
 {
-    probe::check(file).number()
+    words::number(probe::check(file))
 }
 
 // The entries, columns and base rows of an accepted file's layer; 0 of a refused one.
@@ -223,7 +223,7 @@ pub extern "C" fn kw_load(file: &[u8], layer: &mut [u64]) -> Told
     ensures { let F = file.now in let O = layer.old in
         Tells result (load_answer F (length O)) × (layer.new ≡ load_slice F O) }
 {
-    tell(file::load(file, layer))
+    file::load(file, layer).into()
 }
 
 // Writes a layer's file to the front of the bytes.
@@ -232,5 +232,5 @@ pub extern "C" fn kw_save(c: usize, n: usize, m: usize, layer: &[u64], file: &mu
     ensures { let L = layer.now in let O = file.old in
         Tells result (save_answer c n m L (length O)) × (file.new ≡ save_slice c n m L O) }
 {
-    tell(save::save(c, n, m, layer, file))
+    save::save(c, n, m, layer, file).into()
 }

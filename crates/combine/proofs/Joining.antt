@@ -8,14 +8,14 @@ use native.Mathlib.Omega.{arith}
 use lib.ListN.{length, drop}
 use lib.Dec.{ltb}
 use borrow.Author.Tests.{ltb-false, le-ltb}
-use Rattle.words.specs.declared.Answer.{Answer}
-use Rattle.words.specs.declared.Answer.TheVariants.{Done, Refused}
+use Rattle.words.specs.declared.Cause.TheVariants.{NoRoom}
+use Rattle.std.specs.Prelude.{Ok, Err}
 use Rattle.model.specs.Limits.{most_rows}
 use Rattle.model.specs.Layer.{Layer, rows_after}
 use Rattle.model.specs.Raw.{layer_of, flat, room}
 use Rattle.model.specs.Read.{keys_after}
 use Rattle.model.specs.Redo.{combine}
-use Rattle.words.specs.Answer.{refusal}
+use Rattle.words.specs.Answer.{refusal, Answer}
 use Rattle.model.specs.Calls.{form_answer, combine_rows, combine_answer, combine_slice, combined_layer, written}
 use Rattle.theory.proofs.Stages.{reached, stage_passed}
 use Rattle.form.proofs.Accepted.{Accepted, accepted}
@@ -61,15 +61,15 @@ module _ {c : ℕ} {K : List ℕ} {mR : ℕ} {rawR : List ℕ} {mW : ℕ} {rawW 
 
   pub both : (names : List ℕ) → Named c N mW rawW names → 512 ≤ length names → Both c K N mR rawR mW rawW names
   both names h l = record {
-    lower = f.forms.lower ∙ ap Done (sym joins.shown);
-    upper = subst (λ (n : ℕ). form_answer c n mW rawW ≡ Done (rows_after n W)) (sym joins.shown) f.forms.upper;
+    lower = f.forms.lower ∙ ap Ok (sym joins.shown);
+    upper = subst (λ (n : ℕ). form_answer c n mW rawW ≡ Ok (rows_after n W)) (sym joins.shown) f.forms.upper;
     named = h;
     room = omega (arith, up.held.entries);
   }
 
 -- the call, once both layers are checked
 module _ (c : ℕ) (K : List ℕ) (mR : ℕ) (rawR : List ℕ) (mW : ℕ) (rawW out : List ℕ) (k : ℕ)
-    (h : both_answer c K mR rawR mW rawW ≡ Done k) where
+    (h : both_answer c K mR rawR mW rawW ≡ Ok k) where
   abbrev made : Layer
   made = whole c K mR rawR mW rawW
 
@@ -81,7 +81,7 @@ module _ (c : ℕ) (K : List ℕ) (mR : ℕ) (rawR : List ℕ) (mW : ℕ) (rawW 
 
   -- refusal 9
   pub short : ltb (room c (length out)) (length made) ≡ true
-      → Refused (refusal 9 0) ≡ combine_answer c K mR rawR mW rawW (length out)
+      → Err (refusal NoRoom 0) ≡ combine_answer c K mR rawR mW rawW (length out)
   short t =
       sym (after_both c K mR rawR mW rawW (length out)
       ∙ rw (h, subst (λ (L : Layer). ltb (room c (length out)) (length L) ≡ true) same t))
@@ -91,7 +91,7 @@ module _ (c : ℕ) (K : List ℕ) (mR : ℕ) (rawR : List ℕ) (mW : ℕ) (rawW 
     pub there : length made * (c + 2) ≤ length out
     there = (in_room c (length out) (length made) (omega (arith, ltb-false (room c (length out)) (length made) t))).1
 
-    pub enough : (m : ℕ) → length made ≡ m → Done m ≡ combine_answer c K mR rawR mW rawW (length out)
+    pub enough : (m : ℕ) → length made ≡ m → Ok m ≡ combine_answer c K mR rawR mW rawW (length out)
     enough m e =
         sym (after_both c K mR rawR mW rawW (length out)
         ∙ rw (
@@ -122,7 +122,7 @@ pub record Accepts (c : ℕ) (K : List ℕ) (mR : ℕ) (rawR : List ℕ) (mW : �
   pub room_left : m ≤ room c len
 
 pub accepts : (c : ℕ) (K : List ℕ) (mR : ℕ) (rawR : List ℕ) (mW : ℕ) (rawW : List ℕ) (len m : ℕ)
-    → combine_answer c K mR rawR mW rawW len ≡ Done m → Accepts c K mR rawR mW rawW len m
+    → combine_answer c K mR rawR mW rawW len ≡ Ok m → Accepts c K mR rawR mW rawW len m
 accepts c K mR rawR mW rawW len m h =
     let L = combined_layer c K mR rawR mW rawW in
     let w = reached (both_answer c K mR rawR mW rawW) (sym (after_both c K mR rawR mW rawW len) ∙ h) in

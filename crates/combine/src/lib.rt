@@ -8,7 +8,7 @@ ghost use Rattle.woven.specs.Woven.{woven_layer};
 ghost use Rattle.over.specs.Over.{over};
 ghost use Rattle.turn.specs.Turn.{Both};
 
-use words::Answer;
+use words::{Cause, Refusal};
 
 // Both layers make more entries than so many: counted only where they have more together. The slice stays as it is.
 fn more_than(
@@ -43,20 +43,16 @@ pub fn combine(
     mw: usize,
     w: &[u64],
     out: &mut [u64],
-) -> Answer
+) -> Result<usize, Refusal>
     ensures { let K = keys.now in let R = r.now in let W = w.now in
         (result ≡ combine_answer c K mr R mw W (length out.old))
         × (out.new ≡ combine_slice c K mr R mw W out.old) }
 {
     let mut names: [u64; 512] = [0; 512];
-    match stacked::check_both(c, keys, mr, r, mw, w, &mut names) {
-        Answer::Refused(x) => Answer::Refused(x),
-        Answer::Done(_) => {
-            let room = store::room_of(c, out.len());
-            if more_than(room, c, keys, &names, mr, r, mw, w, out) {
-                return Answer::refused(9, 0);
-            }
-            Answer::Done(weave::weave(true, c, keys, &names, mr, r, mw, w, out))
-        }
+    stacked::check_both(c, keys, mr, r, mw, w, &mut names)?;
+    let room = store::room_of(c, out.len());
+    if more_than(room, c, keys, &names, mr, r, mw, w, out) {
+        return words::refused(Cause::NoRoom, 0);
     }
+    Ok(weave::weave(true, c, keys, &names, mr, r, mw, w, out))
 }

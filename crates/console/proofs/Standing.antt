@@ -10,10 +10,11 @@ use lib.ListN.{length, take, drop, get_or, set, length-set, length-append, lengt
 use lib.Seq.{take-suc-set, get_or-take, length-take-le}
 use lib.Dec.{leb, ltb}
 use borrow.Author.Tests.{lt-ltb, le-ltb, le-leb, leb-false, ne_eqb}
+use Rattle.words.specs.declared.Cause.TheVariants.{KeysUnordered}
+use Rattle.words.specs.Answer.{Answer}
+use Rattle.std.specs.Prelude.{Option, Some, None, Ok, Err}
 use Rattle.order.specs.Lists.{rising, ascending}
 use Rattle.order.proofs.Tests.{and_l, and_r, and_of, or_false}
-use Rattle.words.specs.declared.Answer.{Answer}
-use Rattle.words.specs.declared.Answer.TheVariants as answer
 use Rattle.model.specs.Row.{key, keys}
 use Rattle.model.specs.Cell.{to}
 use Rattle.model.specs.Layer.{rows_after}
@@ -29,7 +30,7 @@ use Rattle.edit.proofs.Accepting.{accepts}
 use Rattle.edit.proofs.Laws.{edit_next}
 use Rattle.edit.proofs.Laid.{edit_length}
 use Rattle.line.specs.declared.Line.{Line}
-use Rattle.line.specs.declared.Line.TheVariants.{Base, Add, Strike, Change, Renumber, Unreadable}
+use Rattle.line.specs.declared.Line.TheVariants.{Base, Add, Strike, Change, Renumber}
 use Rattle.line.specs.Line.{line_of}
 use Rattle.text.specs.declared.Said.TheVariants.{Unread, Refused}
 use Rattle.base.specs.declared.Counts.{Counts}
@@ -76,7 +77,7 @@ last_below n K g h b =
     rw (get_or-take n K (n - 1) 0 (omega arith)) (leb-false g (get_or K (n - 1) 0) c)
 
 -- an empty layer fits any base keys that ascend
-empty_form : (raw : List ℕ) (n : ℕ) → n ≤ most_base → form_answer 3 n 0 raw ≡ answer.Done n
+empty_form : (raw : List ℕ) (n : ℕ) → n ≤ most_base → form_answer 3 n 0 raw ≡ Ok n
 unfolding form_answer args_ok breaks_form form_place layer_of entries_at
 empty_form raw n h =
     let z : rows_after n [] ≡ n = omega arith in
@@ -87,7 +88,7 @@ empty_form raw n h =
       le-ltb 4096 n (omega arith),
     )
 
-empty_fits : (raw K : List ℕ) → length K ≤ most_base → ascending K ≡ true → fit_answer 3 0 raw K ≡ answer.Done 0
+empty_fits : (raw K : List ℕ) → length K ≤ most_base → ascending K ≡ true → fit_answer 3 0 raw K ≡ Ok 0
 empty_fits raw K h a =
     sym (fit_done 3 0 raw K (length K)
     (sym (ready_done 3 0 raw K (length K) (empty_form raw (length K) h) a (fit_place K (layer_of 3 0 raw)) refl (omega arith))))
@@ -98,7 +99,7 @@ pub record Kept (len : ℕ) (d : Counts) (x : Sheet) : Type 0 where
   pub roomy : Roomy d x
   pub size : length x.layer ≡ len
   pub held : d.entries ≤ room 3 len
-  pub accepted : fit_answer 3 d.entries x.layer (base_keys d x) ≡ answer.Done 0
+  pub accepted : fit_answer 3 d.entries x.layer (base_keys d x) ≡ Ok 0
   pub early : d.edited ≡ false → d.entries ≡ 0
 
 -- nothing but the count of lines, and whether an edit line was read
@@ -153,8 +154,8 @@ module _ {len : ℕ} {d : Counts} {x : Sheet} (s : Kept len d x) (w : Wish) wher
   edit_kept = go told refl
     where
       go : (a : Answer) → told ≡ a → Kept len (entered d a).counts (with_layer x (slice a))
-      go (answer.Refused q) e = lined s refl refl (λ h. absurd (true≢false h))
-      go (answer.Done k) e =
+      go (Err q) e = lined s refl refl (λ h. absurd (true≢false h))
+      go (Ok k) e =
           let T = base_table d x in
           let l = base_lent d x w in
           record {
@@ -210,20 +211,20 @@ module _ {len : ℕ} {d : Counts} {x : Sheet} (s : Kept len d x) (g v m : ℕ) w
   base_kept = go (shut d) (below_last g d.rows x.keys) refl refl
     where
       go : (t u : Bool) → shut d ≡ t → below_last g d.rows x.keys ≡ u →
-          Kept len (cond t (stay d Unread) (cond u (stay d (Refused 3)) (grown d))).counts (with_row (not (t || u)) d.rows x g v m)
+          Kept len (cond t (stay d Unread) (cond u (stay d (Refused KeysUnordered)) (grown d))).counts (with_row (not (t || u)) d.rows x g v m)
       go true u e f = lined s refl refl (λ h. h)
       go false true e f = lined s refl refl (λ h. h)
       go false false e f = taken_kept e f
 
 -- any line, and any lines
-pub line_kept : (l : Line) {len : ℕ} {d : Counts} {x : Sheet} → Kept len d x → Kept len (heard l d x).counts (after l d x)
+pub line_kept : (l : Option Line) {len : ℕ} {d : Counts} {x : Sheet} → Kept len d x → Kept len (heard l d x).counts (after l d x)
 unfolding heard after
-line_kept (Base g v m) s = base_kept s g v m
-line_kept (Add g v m) {d = d} {x = x} s = rw (keys_are d x s.roomy) at (edit_kept s (adding (g ∷ v ∷ m ∷ [])))
-line_kept (Strike r) {d = d} {x = x} s = rw (keys_are d x s.roomy) at (edit_kept s (striking r))
-line_kept (Change r j v) {d = d} {x = x} s = rw (keys_are d x s.roomy) at (edit_kept s (changing r j (to v)))
-line_kept (Renumber r g) s = edit_kept s (renumbering r g)
-line_kept Unreadable s = lined s refl refl (λ h. h)
+line_kept (Some (Base g v m)) s = base_kept s g v m
+line_kept (Some (Add g v m)) {d = d} {x = x} s = rw (keys_are d x s.roomy) at (edit_kept s (adding (g ∷ v ∷ m ∷ [])))
+line_kept (Some (Strike r)) {d = d} {x = x} s = rw (keys_are d x s.roomy) at (edit_kept s (striking r))
+line_kept (Some (Change r j v)) {d = d} {x = x} s = rw (keys_are d x s.roomy) at (edit_kept s (changing r j (to v)))
+line_kept (Some (Renumber r g)) s = edit_kept s (renumbering r g)
+line_kept None s = lined s refl refl (λ h. h)
 
 lines_kept : (ls : List (List ℕ)) {len : ℕ} (i : Reading) → Kept len i.counts i.sheet →
     Kept len (lines_in ls i).counts (lines_in ls i).sheet

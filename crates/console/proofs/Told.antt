@@ -9,9 +9,10 @@ use native.Mathlib.Omega.{arith}
 use lib.ListN.{length, take}
 use lib.Dec.{leb}
 use borrow.Author.Tests.{leb-false}
+use Rattle.words.specs.declared.Cause.TheVariants.{KeysUnordered}
+use Rattle.words.specs.Answer.{Answer}
+use Rattle.std.specs.Prelude.{Option, Some, None, Ok, Err}
 use Rattle.order.proofs.Tests.{or_false}
-use Rattle.words.specs.declared.Answer.{Answer}
-use Rattle.words.specs.declared.Answer.TheVariants as answer
 use Rattle.model.specs.Row.{Table}
 use Rattle.model.specs.Cell.{to}
 use Rattle.model.specs.Raw.{layer_of, entries_at}
@@ -22,7 +23,7 @@ use Rattle.theory.proofs.Steps.{empty_reads}
 use Rattle.edit.specs.Runs.{step_answer}
 use Rattle.edit.proofs.Laws.{edit_reads}
 use Rattle.line.specs.declared.Line.{Line}
-use Rattle.line.specs.declared.Line.TheVariants.{Base, Add, Strike, Change, Renumber, Unreadable}
+use Rattle.line.specs.declared.Line.TheVariants.{Base, Add, Strike, Change, Renumber}
 use Rattle.line.specs.Line.{line_of}
 use Rattle.text.specs.declared.Said.TheVariants.{Unread, Refused}
 use Rattle.base.specs.declared.Counts.{Counts}
@@ -69,8 +70,8 @@ module _ {len : ℕ} {d : Counts} {x : Sheet} (k : Kept len d x) where
   edit_shown w = go (step_answer 3 d.entries x.layer (base_table d x) w) refl
     where
       go : (a : Answer) → step_answer 3 d.entries x.layer (base_table d x) w ≡ a → EditShown w a
-      go (answer.Refused q) e = refl
-      go (answer.Done n) e = edit_reads 3 d.entries x.layer (base_table d x) w n (base_lent d x w) e
+      go (Err q) e = refl
+      go (Ok n) e = edit_reads 3 d.entries x.layer (base_table d x) w n (base_lent d x w) e
 
   -- a base row
   module _ (g s m : ℕ) where
@@ -94,23 +95,23 @@ module _ {len : ℕ} {d : Counts} {x : Sheet} (k : Kept len d x) where
         ∙ ap (λ (T : Table). T ++ ((g ∷ s ∷ m ∷ []) ∷ [])) (sym (empty_shown (base_table d x) d.entries x.layer none)))
 
     base_shown : (t u : Bool) → shut d ≡ t →
-        shown_table (cond t (stay d Unread) (cond u (stay d (Refused 3)) (grown d))).counts (with_row (not (t || u)) d.rows x g s m)
-        ≡ if_silent (cond t (stay d Unread) (cond u (stay d (Refused 3)) (grown d))).said
+        shown_table (cond t (stay d Unread) (cond u (stay d (Refused KeysUnordered)) (grown d))).counts (with_row (not (t || u)) d.rows x g s m)
+        ≡ if_silent (cond t (stay d Unread) (cond u (stay d (Refused KeysUnordered)) (grown d))).said
         (shown_table d x ++ ((g ∷ s ∷ m ∷ []) ∷ [])) (shown_table d x)
     base_shown true u e = refl
     base_shown false true e = refl
     base_shown false false e = taken_shown e
 
 -- any line, and any lines
-line_shown : (l : Line) {len : ℕ} {d : Counts} {x : Sheet} → Kept len d x →
+line_shown : (l : Option Line) {len : ℕ} {d : Counts} {x : Sheet} → Kept len d x →
     shown_table (heard l d x).counts (after l d x) ≡ if_silent (heard l d x).said (deed_done l (shown_table d x)) (shown_table d x)
 unfolding heard after
-line_shown (Base g s m) {d = d} {x = x} k = base_shown k g s m (shut d) (below_last g d.rows x.keys) refl
-line_shown (Add g s m) {d = d} {x = x} k = rw (keys_are d x k.roomy) at (edit_shown k (adding (g ∷ s ∷ m ∷ [])))
-line_shown (Strike r) {d = d} {x = x} k = rw (keys_are d x k.roomy) at (edit_shown k (striking r))
-line_shown (Change r j v) {d = d} {x = x} k = rw (keys_are d x k.roomy) at (edit_shown k (changing r j (to v)))
-line_shown (Renumber r g) k = edit_shown k (renumbering r g)
-line_shown Unreadable k = refl
+line_shown (Some (Base g s m)) {d = d} {x = x} k = base_shown k g s m (shut d) (below_last g d.rows x.keys) refl
+line_shown (Some (Add g s m)) {d = d} {x = x} k = rw (keys_are d x k.roomy) at (edit_shown k (adding (g ∷ s ∷ m ∷ [])))
+line_shown (Some (Strike r)) {d = d} {x = x} k = rw (keys_are d x k.roomy) at (edit_shown k (striking r))
+line_shown (Some (Change r j v)) {d = d} {x = x} k = rw (keys_are d x k.roomy) at (edit_shown k (changing r j (to v)))
+line_shown (Some (Renumber r g)) k = edit_shown k (renumbering r g)
+line_shown None k = refl
 
 lines_shown : (ls : List (List ℕ)) {len : ℕ} (i : Reading) → Kept len i.counts i.sheet →
     shown_table (lines_in ls i).counts (lines_in ls i).sheet ≡ table_in ls i (shown_table i.counts i.sheet)

@@ -5,10 +5,9 @@ use mathlib.Core.List.{List, [], ◌++◌}
 use Prim.Native.Nat.{ℕ, ◌+◌}
 use lib.ListN.{length, take}
 use lib.Dec.{leb}
+use Rattle.words.specs.Answer.{Answer}
 use Rattle.order.proofs.Tests.{and_l}
 use Rattle.order.proofs.Ascending.{AscFrom, asc_of, of_asc}
-use Rattle.words.specs.declared.Answer.{Answer}
-use Rattle.words.specs.declared.Answer.TheVariants as answer
 use Rattle.model.specs.Row.{Table, key, keys}
 use Rattle.model.specs.Layer.{Layer, rows_after}
 use Rattle.model.specs.Form.{in_order}

@@ -1,8 +1,7 @@
 -- What stands after any lines, from the empty table and layer on, and what is then printed.
-use Rattle.std.specs.Prelude.{◌≡◌, true, ℕ, ◌≤◌, ◌<◌, length, take}
+use Rattle.std.specs.Prelude.{◌≡◌, true, ℕ, ◌≤◌, ◌<◌, length, take, Ok}
 use mathlib.Core.List.{List, ◌++◌, Memᴰ as Mem}
 use Rattle.order.specs.Lists.{ascending}
-use Rattle.words.specs.declared.Answer.TheVariants.{Done}
 use Rattle.model.specs.Row.{Row, column}
 use Rattle.model.specs.Layer.{Layer}
 use Rattle.model.specs.Raw.{layer_of, room}
@@ -29,7 +28,7 @@ pub record Standing (d : Counts) (x : Sheet) : Type 0 where
   pub form : keeps_form 3 d.rows (sheet_layer d x) ≡ true
   pub fit : fits (base_keys d x) (sheet_layer d x) ≡ true
   -- so the fit check accepts its slice: an edit is refused for its own wish alone
-  pub accepted : fit_answer 3 d.entries x.layer (base_keys d x) ≡ Done 0
+  pub accepted : fit_answer 3 d.entries x.layer (base_keys d x) ≡ Ok 0
 
 -- what is printed is the whole table
 pub record WholeTable (d : Counts) (x : Sheet) : Type 0 where
@@ -38,7 +37,7 @@ pub record WholeTable (d : Counts) (x : Sheet) : Type 0 where
   -- the form check counts those rows, and reading a column to a buffer that holds them is not refused
   pub formed : Formed (length (shown_table d x)) d.rows d.entries x.layer
   pub readable : (j len : ℕ) (base : List ℕ) → j < 3 → length base ≡ d.rows → length (shown_table d x) ≤ len →
-      read_answer 3 d.entries x.layer base j len ≡ Done (length (shown_table d x))
+      read_answer 3 d.entries x.layer base j len ≡ Ok (length (shown_table d x))
   -- every row has three values, and the groups strictly ascend
   pub three : (r : Row) → Mem r (shown_table d x) → length r ≡ 3
   pub rising : ascending (column 0 (shown_table d x)) ≡ true

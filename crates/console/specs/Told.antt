@@ -1,14 +1,13 @@
 -- The table that lines make: a line that says nothing does its deed to the rows that are shown; any other line, to which
 -- the program says `? L` or `refused N L`, does nothing.
-use Rattle.std.specs.Prelude.{List, [], ◌∷◌, ◌++◌, ℕ, replicate}
+use Rattle.std.specs.Prelude.{Option, Some, None, List, [], ◌∷◌, ◌++◌, ℕ, replicate}
 use Rattle.model.specs.Row.{Table}
 use Rattle.model.specs.Cell.{to}
 use Rattle.model.specs.Steps.{adding, striking, changing, renumbering, step_by}
 use Rattle.line.specs.declared.Line.{Line}
-use Rattle.line.specs.declared.Line.TheVariants.{Base, Add, Strike, Change, Renumber, Unreadable}
+use Rattle.line.specs.declared.Line.TheVariants.{Base, Add, Strike, Change, Renumber}
 use Rattle.line.specs.Line.{line_of}
 use Rattle.text.specs.declared.Said.{Said}
-use Rattle.text.specs.declared.Said.TheVariants.{Nothing, Unread, Refused}
 use Rattle.base.specs.Base.{Sheet, sheet_of}
 use Rattle.hear.specs.Heard.{heard}
 use Rattle.intake.specs.Reading.{Reading, line_in, bytes_in}
@@ -17,18 +16,17 @@ use Rattle.text.specs.Text.{header}
 use Rattle.show.specs.Shown.{ending}
 
 -- a base row behind the others; a row more, in key order; row r struck; column j of row r changed; row r given the group g
-abbrev pub deed_done : Line → Table → Table
-deed_done (Base g s m) T = T ++ ((g ∷ s ∷ m ∷ []) ∷ [])
-deed_done (Add g s m) T = step_by (adding (g ∷ s ∷ m ∷ [])) T
-deed_done (Strike r) T = step_by (striking r) T
-deed_done (Change r j v) T = step_by (changing r j (to v)) T
-deed_done (Renumber r g) T = step_by (renumbering r g) T
-deed_done Unreadable T = T
+abbrev pub deed_done : Option Line → Table → Table
+deed_done (Some (Base g s m)) T = T ++ ((g ∷ s ∷ m ∷ []) ∷ [])
+deed_done (Some (Add g s m)) T = step_by (adding (g ∷ s ∷ m ∷ [])) T
+deed_done (Some (Strike r)) T = step_by (striking r) T
+deed_done (Some (Change r j v)) T = step_by (changing r j (to v)) T
+deed_done (Some (Renumber r g)) T = step_by (renumbering r g) T
+deed_done None T = T
 
-abbrev pub if_silent : Said → Table → Table → Table
-if_silent Nothing T U = T
-if_silent Unread T U = U
-if_silent (Refused n) T U = U
+abbrev pub if_silent : Option Said → Table → Table → Table
+if_silent None T U = T
+if_silent (Some said) T U = U
 
 -- the table after some lines, from one that is shown
 unfoldable pub table_in : List (List ℕ) → Reading → Table → Table

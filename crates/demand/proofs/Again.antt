@@ -6,10 +6,10 @@ use mathlib.Core.Path.{◌≡◌, sym, ap, ◌∙◌}
 use mathlib.Core.Bool.{true}
 use mathlib.Core.List.{List, ◌++◌, Memᴰ as Mem}
 use lib.ListN.{length, drop, length-append}
+use Rattle.words.specs.Answer.{Answer}
+use Rattle.std.specs.Prelude.{Ok}
 use Rattle.order.proofs.Pairs.{AllPairs}
 use Rattle.words.specs.declared.Entry.{Entry}
-use Rattle.words.specs.declared.Answer.{Answer}
-use Rattle.words.specs.declared.Answer.TheVariants.{Done}
 use Rattle.model.specs.Row.{Table, keys}
 use Rattle.model.specs.Layer.{Edit, Layer, rows_after}
 use Rattle.model.specs.Raw.{Held, entries_of, layer_of, flat}
@@ -34,7 +34,7 @@ use Rattle.demand.specs.Promises.{MovedPast}
 use Rattle.demand.proofs.Promises.{slice_of_lem, tested, moved_past, moved_entries}
 
 module _ (c : ℕ) (T : Table) (mx : ℕ) (x : List ℕ) (my : ℕ) (y : List ℕ) (r : Answer) (x' : List ℕ)
-    (o : Outcome c (keys T) mx x my y r x') (k : ℕ) (e : r ≡ Done k) where
+    (o : Outcome c (keys T) mx x my y r x') (k : ℕ) (e : r ≡ Ok k) where
   abbrev X : Layer
   X = layer_of c mx x
 
@@ -58,7 +58,7 @@ module _ (c : ℕ) (T : Table) (mx : ℕ) (x : List ℕ) (my : ℕ) (y : List �
   held = (ready_form M.sides.mine).held
 
   written : x' ≡ flat c (move X Y) ++ drop (length (flat c (move X Y))) x
-  written = slice_of_lem c (keys T) mx x my y r (Done k) x' o e
+  written = slice_of_lem c (keys T) mx x my y r (Ok k) x' o e
 
   rows : length N ≡ rows_after (length (keys T)) Y
   rows =
@@ -95,5 +95,5 @@ module _ (c : ℕ) (T : Table) (mx : ℕ) (x : List ℕ) (my : ℕ) (y : List �
     fit = moved.fitted;
   }
 
-  pub moved_again : fit_answer c mx x' N ≡ Done 0
+  pub moved_again : fit_answer c mx x' N ≡ Ok 0
   moved_again = ready_fits ready

@@ -11,10 +11,10 @@ use borrow.Author.Tests.{le-ltb, not-false}
 use contract.Lifetimes.{Lfts}
 use denote.Triple.Clauses.{AtExit}
 use borrow.Fn.Kinds.{Dens, ended_of}
+use Rattle.words.specs.Answer.{Answer}
+use Rattle.std.specs.Prelude.{Ok, Err}
 use Rattle.order.proofs.Tests.{not_passed, and_l, and_r, and_of}
 use Rattle.order.proofs.Ascending.{asc_of}
-use Rattle.words.specs.declared.Answer.{Answer}
-use Rattle.words.specs.declared.Answer.TheVariants.{Done, Refused}
 use Rattle.model.specs.Row.{Table, key, keys}
 use Rattle.model.specs.Layer.{Layer, rows_after}
 use Rattle.model.specs.Raw.{layer_of}
@@ -50,7 +50,7 @@ module _ (c : ℕ) (K : List ℕ) (mx : ℕ) (x : List ℕ) (my : ℕ) (y : List
   -- with no conflict and at most 4,096 rows, the move is accepted
   pub accepted : (Conflicting (layer_of c mx x) (layer_of c my y) → ⊥)
       → rows_after (rows_after (length K) (layer_of c my y)) (layer_of c mx x) ≤ 4096
-      → (r : Answer) (x' : List ℕ) → Outcome c K mx x my y r x' → r ≡ Done mx
+      → (r : Answer) (x' : List ℕ) → Outcome c K mx x my y r x' → r ≡ Ok mx
   accepted apart few r x' o =
       let X = layer_of c mx x in
       let Y = layer_of c my y in
@@ -65,7 +65,7 @@ module _ (c : ℕ) (K : List ℕ) (mx : ℕ) (x : List ℕ) (my : ℕ) (y : List
       let a = args_ok c (length K) mx (length x) in
       let b = args_ok c (length K) my (length y) in
       let ok = not-false (a && b) w.0 in
-      all_passed Refused (pair_rows c K my y mx x) (Done 0) (
+      all_passed Err (pair_rows c K my y mx x) (Ok 0) (
         ap not (and_of b a (and_r a b ok) (and_l a b ok)),
         (w.1.1.0, (w.1.0, (w.1.1.1.0, (w.1.1.1.1.1.0, (w.1.1.1.1.0, tt))))),
       )
@@ -106,7 +106,7 @@ module _ (c : ℕ) (T : Table) (mx : ℕ) (x : List ℕ) (my : ℕ) (y : List �
   swapped C = apart (conflicting X Y (conflict_sym X Y ∙ of_conflicting Y X C))
 
   pub demand3_of_call : (r s : Answer) (x' y' : List ℕ) → Outcome c (keys T) mx x my y r x'
-      → Outcome c (keys T) my y mx x s y' → (r ≡ Done mx) × (s ≡ Done my) × BothOrders c T mx x x' my y y'
+      → Outcome c (keys T) my y mx x s y' → (r ≡ Ok mx) × (s ≡ Ok my) × BothOrders c T mx x x' my y y'
   demand3_of_call r s x' y' o p =
       let e = accepted c (keys T) mx x my y four apart mine_few r x' o in
       let f = accepted c (keys T) my y mx x (turned c (keys T) mx x my y four) swapped theirs_few s y' p in

@@ -4,8 +4,8 @@ use Prim.Native.Nat.{ℕ}
 use mathlib.Core.Path.{◌≡◌, refl, ap, ◌∙◌}
 use mathlib.Core.List.{List, [], ◌∷◌, map}
 use lib.ListN.{length}
-use Rattle.words.specs.declared.Answer.{Answer}
-use Rattle.words.specs.declared.Answer.TheVariants.{Done, Refused}
+use Rattle.words.specs.declared.Cause.TheVariants.{InConflict}
+use Rattle.std.specs.Prelude.{Ok, Err}
 use Rattle.model.specs.Row.{Table, key, keys}
 use Rattle.model.specs.Cell.{put}
 use Rattle.model.specs.Layer.{Layer, position}
@@ -17,7 +17,7 @@ use Rattle.model.specs.Position.{row_of}
 use Rattle.model.specs.Conflict.{conflict, conflict_place}
 use Rattle.model.specs.Move.{add_position}
 use Rattle.model.specs.Refusals.{breaks_form}
-use Rattle.words.specs.Answer.{refusal}
+use Rattle.words.specs.Answer.{refusal, Answer}
 use Rattle.model.specs.Calls.{move_answer, move_slice}
 use Rattle.model.specs.Examples.{four, Example, edits, shifts, passes, refuses, combines, examples}
 use Rattle.demand.specs.Promises.{MovesTo, StaysAt, EachOfCall}
@@ -31,12 +31,12 @@ slice_of X Y = move_slice 2 (keys four) (length X) (flat 2 X) (length Y) (flat 2
 
 abbrev Goes : Layer → Layer → List ℕ → Table → Type 0
 Goes X Y ps T =
-    (answer_of X Y ≡ Done (length X))
+    (answer_of X Y ≡ Ok (length X))
     × (map position (layer_of 2 (length X) (slice_of X Y)) ≡ ps)
     × (read (read four Y) (layer_of 2 (length X) (slice_of X Y)) ≡ T)
 
 abbrev Stays : Layer → Layer → ℕ → Type 0
-Stays X Y place = (answer_of X Y ≡ Refused (refusal 8 place)) × (slice_of X Y ≡ flat 2 X)
+Stays X Y place = (answer_of X Y ≡ Err (refusal InConflict place)) × (slice_of X Y ≡ flat 2 X)
 
 moves_to : (X Y : Layer) (ps : List ℕ) (T : Table) → Goes X Y ps T → MovesTo X Y ps T
 moves_to X Y ps T g r x' o = (

@@ -9,13 +9,13 @@ use lib.ListN.{length, drop, length-map, take-append-drop}
 use lib.Seq.{length-take-le}
 use lib.Dec.{ltb, leb}
 use borrow.Author.Tests.{ltb-true, le-ltb, le-leb}
+use Rattle.words.specs.declared.Cause.TheVariants.{InConflict, TooManyRows}
+use Rattle.std.specs.Prelude.{Ok, Err}
 use Rattle.order.specs.Lists.{one, any, count, first_at}
 use Rattle.order.proofs.Tests.{and_of}
 use Rattle.order.proofs.Counts.{count_map, count_same}
 use Rattle.order.proofs.First.{first_passes, first_least}
-use Rattle.words.specs.declared.Answer.{Answer}
-use Rattle.words.specs.declared.Answer.TheVariants.{Done, Refused}
-use Rattle.words.specs.Answer.{number_of}
+use Rattle.words.specs.Answer.{number_of, Answer}
 use Rattle.model.specs.Row.{Table, key, keys}
 use Rattle.model.specs.Layer.{add, strike, change, Edit, at, Layer, is_add, is_strike, is_add_or_strike, rows_after}
 use Rattle.model.specs.Raw.{layer_of, flat}
@@ -70,14 +70,14 @@ lowest X Y h = record {
 -- Demand 3, the half that refuses: past refusals 1 to 4, the answer is 8 exactly on the demand's cases, at the lowest
 -- entry.
 module _ (c : ℕ) (K : List ℕ) (mx : ℕ) (x : List ℕ) (my : ℕ) (y : List ℕ) (four : PassesFour c K mx x my y) where
-  pub answer : first_met Refused (move_rows (length K) (layer_of c mx x) (layer_of c my y)) (Done mx) ≡ move_answer c K mx x my y
+  pub answer : first_met Err (move_rows (length K) (layer_of c mx x) (layer_of c my y)) (Ok mx) ≡ move_answer c K mx x my y
   unfolding move_answer pair_form pair_rows
   answer =
-      stage_done Refused (pair_rows c K mx x my y) (move_rows (length K) (layer_of c mx x) (layer_of c my y)) 0 0 (Done mx)
+      stage_done Err (pair_rows c K mx x my y) (move_rows (length K) (layer_of c mx x) (layer_of c my y)) 0 0 (Ok mx)
       four
 
   eight : (t u : Bool) (p : ℕ)
-      → number_of (cond t (Refused (refusal 8 p)) (cond u (Refused (refusal 10 0)) (Done mx))) ≡ 8 → t ≡ true
+      → number_of (cond t (Err (refusal InConflict p)) (cond u (Err (refusal TooManyRows 0)) (Ok mx))) ≡ 8 → t ≡ true
   eight true u p h = refl
   eight false true p h = absurd (omega arith)
   eight false false p h = absurd (omega arith)
@@ -85,7 +85,7 @@ module _ (c : ℕ) (K : List ℕ) (mx : ℕ) (x : List ℕ) (my : ℕ) (y : List
   pub eight_exactly : (r : Answer) (x' : List ℕ) → Outcome c K mx x my y r x'
       → (number_of r ≡ 8 → Conflicting (layer_of c mx x) (layer_of c my y))
       × (Conflicting (layer_of c mx x) (layer_of c my y)
-      → (r ≡ Refused (refusal 8 (conflict_place (layer_of c mx x) (layer_of c my y))))
+      → (r ≡ Err (refusal InConflict (conflict_place (layer_of c mx x) (layer_of c my y))))
       × Lowest (layer_of c mx x) (layer_of c my y) (conflict_place (layer_of c mx x) (layer_of c my y)))
   eight_exactly r x' o =
       let X = layer_of c mx x in
@@ -126,7 +126,7 @@ module _ (c : ℕ) (T : Table) (mx : ℕ) (x : List ℕ) (my : ℕ) (y : List �
 
   -- what one way leaves
   pub moved_past : (k : ℕ) → Moves c (keys T) mx x my y k → Past c T (layer_of c mx x) (layer_of c my y)
-      → (r : Answer) (x' : List ℕ) → Outcome c (keys T) mx x my y r x' → r ≡ Done k
+      → (r : Answer) (x' : List ℕ) → Outcome c (keys T) mx x my y r x' → r ≡ Ok k
       → MovedPast c T (layer_of c mx x) (layer_of c my y) mx x'
   moved_past k M P r x' o e = record {
     holds = back;
@@ -148,7 +148,7 @@ module _ (c : ℕ) (T : Table) (mx : ℕ) (x : List ℕ) (my : ℕ) (y : List �
       back : layer_of c mx x' ≡ move X Y
       back =
           let H = (ready_form M.sides.mine).held in
-          ap (layer_of c mx) (slice_of_lem c (keys T) mx x my y r (Done k) x' o e)
+          ap (layer_of c mx) (slice_of_lem c (keys T) mx x my y r (Ok k) x' o e)
           ∙ read_back c rows H.some H.columns mx (move X Y) (drop (length (flat c (move X Y))) x)
           (moved_entries X Y ∙ layer_length c mx x) (position.formed c rows (move X Y) P.formed).each
 
@@ -166,7 +166,7 @@ module _ (c : ℕ) (T : Table) (mx : ℕ) (x : List ℕ) (my : ℕ) (y : List �
 module _ (c : ℕ) (T : Table) (mx : ℕ) (x : List ℕ) (my : ℕ) (y : List ℕ) where
   both_orders_keys : (r s : Answer) (x' y' : List ℕ) → Outcome c (keys T) mx x my y r x'
       → Outcome c (keys T) my y mx x s y'
-      → (k l : ℕ) → r ≡ Done k → s ≡ Done l → BothOrders c T mx x x' my y y'
+      → (k l : ℕ) → r ≡ Ok k → s ≡ Ok l → BothOrders c T mx x x' my y y'
   both_orders_keys r s x' y' o p k l e f = record {
     mine = mine;
     theirs = theirs;
@@ -192,7 +192,7 @@ module _ (c : ℕ) (T : Table) (mx : ℕ) (x : List ℕ) (my : ℕ) (y : List �
       theirs = moved_past c T my y mx x l N D.1 s y' p f
 
   pub both_orders : (K : List ℕ) → keys T ≡ K → (r s : Answer) (x' y' : List ℕ)
-      → Outcome c K mx x my y r x' → Outcome c K my y mx x s y' → (k l : ℕ) → r ≡ Done k → s ≡ Done l
+      → Outcome c K mx x my y r x' → Outcome c K my y mx x s y' → (k l : ℕ) → r ≡ Ok k → s ≡ Ok l
       → BothOrders c T mx x x' my y y'
   both_orders K h r s x' y' o p = both_orders_keys r s x' y' (rw (← h) at o) (rw (← h) at p)
 
@@ -205,15 +205,15 @@ module _ (c : ℕ) (K : List ℕ) (m : ℕ) (x : List ℕ) (four : PassesFour c 
   formed : Accepted c (length K) m x (rows_after (length K) X)
   formed = ready_form (sides c K m x m x 0 0 four).0.mine
 
-  pub itself_refused : any is_add_or_strike X ≡ true → (r ≡ Refused (refusal 8 (first_at is_add_or_strike X))) × (x' ≡ x)
+  pub itself_refused : any is_add_or_strike X ≡ true → (r ≡ Err (refusal InConflict (first_at is_add_or_strike X))) × (x' ≡ x)
   itself_refused h =
       let e =
       ((eight_exactly c K m x m x four r x' o).1 (conflicting X X (own_conflict X formed.pairs ∙ h))).0
-      ∙ ap (λ (p : ℕ). Refused (refusal 8 p)) (own_place X formed.pairs) in
-      (e, slice_of_lem c K m x m x r (Refused (refusal 8 (first_at is_add_or_strike X))) x' o e)
+      ∙ ap (λ (p : ℕ). Err (refusal InConflict p)) (own_place X formed.pairs) in
+      (e, slice_of_lem c K m x m x r (Err (refusal InConflict (first_at is_add_or_strike X))) x' o e)
 
   module _ (quiet : any is_add_or_strike X ≡ false) where
-    itself_passes : move_answer c K m x m x ≡ Done m
+    itself_passes : move_answer c K m x m x ≡ Ok m
     itself_passes =
         sym (answer c K m x m x four)
         ∙ rw (
@@ -228,7 +228,7 @@ module _ (c : ℕ) (K : List ℕ) (m : ℕ) (x : List ℕ) (four : PassesFour c 
     as_it_was =
         rw (formed.numbers, length-take-le (m * (c + 2)) x formed.held.room) (take-append-drop (m * (c + 2)) x)
 
-    pub itself_accepted : (r ≡ Done m) × (x' ≡ x)
+    pub itself_accepted : (r ≡ Ok m) × (x' ≡ x)
     itself_accepted =
         let e = o.0 ∙ itself_passes in
-        (e, slice_of_lem c K m x m x r (Done m) x' o e ∙ (rw (none_moved X quiet X) as_it_was))
+        (e, slice_of_lem c K m x m x r (Ok m) x' o e ∙ (rw (none_moved X quiet X) as_it_was))

@@ -1,7 +1,6 @@
 -- What is promised of a move, over every outcome that the call's contract allows.
-use Rattle.std.specs.Prelude.{◌≡◌, true, false, List, [], ◌∷◌, map, ℕ, ◌<◌, length, get_or}
-use Rattle.words.specs.declared.Answer.{Answer}
-use Rattle.words.specs.declared.Answer.TheVariants.{Done, Refused}
+use Rattle.words.specs.declared.Cause.TheVariants.{InConflict}
+use Rattle.std.specs.Prelude.{◌≡◌, true, false, List, [], ◌∷◌, map, ℕ, ◌<◌, length, get_or, Ok, Err}
 use Rattle.model.specs.Row.{Table, keys}
 use Rattle.model.specs.Layer.{at, strike, Layer, position}
 use Rattle.model.specs.Raw.{layer_of, flat}
@@ -12,14 +11,14 @@ use Rattle.model.specs.Redo.{redo, on_table}
 use Rattle.model.specs.Conflict.{clashes_with}
 use Rattle.model.specs.Move.{move}
 use Rattle.model.specs.Refusals.{first_met}
-use Rattle.words.specs.Answer.{refusal}
+use Rattle.words.specs.Answer.{refusal, Answer}
 use Rattle.model.specs.Examples.{four, Example, edits, shifts, passes, refuses, combines}
 use Rattle.pass.specs.Outcome.{Outcome}
 use Rattle.pair.specs.Pair.{pair_rows}
 
 -- the input passes refusals 1 to 4
 abbrev pub PassesFour : ℕ → List ℕ → ℕ → List ℕ → ℕ → List ℕ → Type 0
-PassesFour c K mx x my y = first_met Refused (pair_rows c K mx x my y) (Done 0) ≡ Done 0
+PassesFour c K mx x my y = first_met {A = Answer} Err (pair_rows c K mx x my y) (Ok 0) ≡ Ok 0
 
 -- p is the lowest entry number of X in any conflict
 pub record Lowest (X Y : Layer) (p : ℕ) : Type 0 where
@@ -43,13 +42,13 @@ pub record BothOrders (c : ℕ) (T : Table) (mx : ℕ) (x x' : List ℕ) (my : �
 -- X past Y in the base of the examples: accepted, to these positions, and it reads as this table
 abbrev pub MovesTo : Layer → Layer → List ℕ → Table → Type 0
 MovesTo X Y ps T = (r : Answer) (x' : List ℕ) → Outcome 2 (keys four) (length X) (flat 2 X) (length Y) (flat 2 Y) r x'
-    → (r ≡ Done (length X)) × (map position (layer_of 2 (length X) x') ≡ ps)
+    → (r ≡ Ok (length X)) × (map position (layer_of 2 (length X) x') ≡ ps)
     × (read (read four Y) (layer_of 2 (length X) x') ≡ T)
 
 -- or refused at this place, and the slice is as it was
 abbrev pub StaysAt : Layer → Layer → ℕ → Type 0
 StaysAt X Y place = (r : Answer) (x' : List ℕ) → Outcome 2 (keys four) (length X) (flat 2 X) (length Y) (flat 2 Y) r x'
-    → (r ≡ Refused (refusal 8 place)) × (x' ≡ flat 2 X)
+    → (r ≡ Err (refusal InConflict place)) × (x' ≡ flat 2 X)
 
 -- what the lines of a table of examples say of the call; E7 to E11 and two of request 2's are lines of the last two kinds
 abbrev pub EachOfCall : List Example → Type 0

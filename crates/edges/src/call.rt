@@ -1,7 +1,7 @@
 // The calls on a case: a letter names the call; the first list has its numbers, the second the slice that it is lent to
 // alter or to look at, the others what else it is lent.
 use numbers::list;
-use words::Answer;
+use words::Refusal;
 
 // The numbers of a call, named as those of change.
 #[derive(Clone, Copy)]
@@ -34,7 +34,14 @@ fn view<'a>(a: Args, out: &'a [u64], layer: &[u64], base: &'a [u64]) {
 // number c n m r g ; layer ; table
 // combine c mr mw ; buffer ; keys ; R ; W
 // move c mx my ; X ; keys ; Y
-fn alter(word: u8, a: Args, lent: &mut [u64], one: &[u64], two: &[u64], three: &[u64]) -> Answer {
+fn alter(
+    word: u8,
+    a: Args,
+    lent: &mut [u64],
+    one: &[u64],
+    two: &[u64],
+    three: &[u64],
+) -> Result<usize, Refusal> {
     match word {
         b'r' => read::read(a.c, a.m, one, two, a.r, lent),
         b'a' => add::add(a.c, a.m, lent, one, two),

@@ -9,12 +9,12 @@ use mathlib.Core.List.{List, [], ◌++◌, Memᴰ as Mem}
 use lib.ListN.{length, get_or}
 use lib.Dec.{ltb, eqb}
 use borrow.Author.Tests.{ltb-true, ltb-false, leb-false, eqb-true, eqb-false, eq-eqb, not-false}
+use Rattle.std.specs.Prelude.{Ok, Err}
 use Rattle.order.specs.Lists.{any, ascending, without}
 use Rattle.order.proofs.Tests.{and_l, and_r}
 use Rattle.order.proofs.Members.{any_of, mem_map}
 use Rattle.order.proofs.Ascending.{AscFrom, At, asc_of, get_or_at, at_mem}
 use Rattle.order.proofs.Edited.{without_map}
-use Rattle.words.specs.declared.Answer.TheVariants.{Done, Refused}
 use Rattle.model.specs.Row.{Row, Table, key, keys}
 use Rattle.model.specs.Cell.{to}
 use Rattle.model.specs.Layer.{Layer, rows_after}
@@ -60,7 +60,7 @@ pub record Accepts (c m : ℕ) (raw : List ℕ) (T : Table) (x : Step) (k : ℕ)
 -- the tests of an accepted call have passed: the first four, and its own
 pub all_rows : (c m : ℕ) (raw K : List ℕ) (ok : Bool) → (ok ≡ true → args_ok c (length K) m (length raw) ≡ true)
     → (us : List Test) (z k : ℕ)
-    → first_met Refused (form_rows ok c (length K) m raw ++ (fit_rows K (layer_of c m raw) ++ us)) (Done z) ≡ Done k
+    → first_met Err (form_rows ok c (length K) m raw ++ (fit_rows K (layer_of c m raw) ++ us)) (Ok z) ≡ Ok k
     → Ready c m raw K × (ok ≡ true) × Passed us × (z ≡ k)
 all_rows c m raw K ok args us z k h =
     let w = stage_passed (form_rows ok c (length K) m raw ++ (fit_rows K (layer_of c m raw) ++ us)) z k h in
@@ -124,7 +124,7 @@ module _ (c m : ℕ) (raw : List ℕ) (T : Table) where
       rows = n;
     }
 
-  add_accepts : (row : Row) (k : ℕ) → add_answer c m raw K row ≡ Done k → Accepts c m raw T (adding row) k
+  add_accepts : (row : Row) (k : ℕ) → add_answer c m raw K row ≡ Ok k → Accepts c m raw T (adding row) k
   unfolding add_answer
   add_accepts row k h =
       let own = eqb (length row) c in
@@ -135,7 +135,7 @@ module _ (c m : ℕ) (raw : List ℕ) (T : Table) where
       step_accepts R (adding row) k (eqb-true (length row) c (and_r args own w.1), free R row t.0) w.3 t.1.0
       (rw (sym (keys_length T)) (ltb-false 4096 (rows_after (length K) (step_on T (adding row) L)) t.1.1.0))
 
-  strike_accepts : (r k : ℕ) → strike_answer c m raw K r ≡ Done k → Accepts c m raw T (striking r) k
+  strike_accepts : (r k : ℕ) → strike_answer c m raw K r ≡ Ok k → Accepts c m raw T (striking r) k
   unfolding strike_answer
   strike_accepts r k h =
       let w = all_rows c m raw K args (λ o. o) (strike_rows c (length raw) K L r)
@@ -151,7 +151,7 @@ module _ (c m : ℕ) (raw : List ℕ) (T : Table) where
         (form_is R).few,
       ))
 
-  change_accepts : (r j v k : ℕ) → change_answer c m raw K r j v ≡ Done k → Accepts c m raw T (changing r j (to v)) k
+  change_accepts : (r j v k : ℕ) → change_answer c m raw K r j v ≡ Ok k → Accepts c m raw T (changing r j (to v)) k
   unfolding change_answer
   change_accepts r j v k h =
       let own = ltb j c in
@@ -179,7 +179,7 @@ module _ (c m : ℕ) (raw : List ℕ) (T : Table) where
         (rw (without_map key r (read T L)) (mem_map key (without r (read T L)) q n)) (eq-eqb g (key q) (sym e)))
         ∙ (ap (λ (Z : List ℕ). any (eqb g) (without r Z)) (sym (keys_read T L (key_kept T L (is_good R).fit))) ∙ h))
 
-  renumber_accepts : (r g k : ℕ) → Wide c T → renumber_over true c m raw T r g ≡ Done k
+  renumber_accepts : (r g k : ℕ) → Wide c T → renumber_over true c m raw T r g ≡ Ok k
       → Accepts c m raw T (renumbering r g) k
   unfolding renumber_over
   renumber_accepts r g k wide h =
@@ -199,7 +199,7 @@ module _ (c m : ℕ) (raw : List ℕ) (T : Table) where
         (form_is R).few,
       ))
 
-  pub accepts : (x : Step) (k : ℕ) → Lent c T x → step_answer c m raw T x ≡ Done k → Accepts c m raw T x k
+  pub accepts : (x : Step) (k : ℕ) → Lent c T x → step_answer c m raw T x ≡ Ok k → Accepts c m raw T x k
   accepts (adding row) k l h = add_accepts row k h
   accepts (striking r) k l h = strike_accepts r k h
   accepts (changing r j (to v)) k l h = change_accepts r j v k h

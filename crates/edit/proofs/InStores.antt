@@ -4,7 +4,7 @@
 use Prim.Native.Nat.{ℕ}
 use mathlib.Core.Path.{◌≡◌, refl}
 use mathlib.Core.List.{List}
-use Rattle.words.specs.declared.Answer.TheVariants.{Done}
+use Rattle.std.specs.Prelude.{Ok}
 use Rattle.model.specs.Row.{Table}
 use Rattle.model.specs.Raw.{layer_of}
 use Rattle.model.specs.Steps.{Step}
@@ -16,7 +16,7 @@ use Rattle.edit.proofs.Splices.{whole_move}
 use Rattle.edit.proofs.Stores.{in_stores}
 
 -- an accepted edit in stores
-pub edit_stores : (c m : ℕ) (raw : List ℕ) (T : Table) (x : Step) (k : ℕ) → Lent c T x → step_answer c m raw T x ≡ Done k
+pub edit_stores : (c m : ℕ) (raw : List ℕ) (T : Table) (x : Step) (k : ℕ) → Lent c T x → step_answer c m raw T x ≡ Ok k
     → InStores c m raw (move_for T (layer_of c m raw) x) k (step_slice c m raw T x k)
 edit_stores c m raw T x k l h =
     let w = whole_move c m raw T x k l h in
@@ -24,7 +24,7 @@ edit_stores c m raw T x k l h =
 
 -- the same of what its contract allows
 pub allowed_stores : (c m : ℕ) (raw : List ℕ) (T : Table) (x : Step) (k : ℕ) (new : List ℕ) → Lent c T x
-    → Allows c m raw T x (Done k) new → InStores c m raw (move_for T (layer_of c m raw) x) k new
+    → Allows c m raw T x (Ok k) new → InStores c m raw (move_for T (layer_of c m raw) x) k new
 allowed_stores c m raw T x k new l o =
-    let w = accepted_outcome c m raw T x (Done k) new o k refl in
+    let w = accepted_outcome c m raw T x (Ok k) new o k refl in
     rw w.1 (edit_stores c m raw T x k l w.0)

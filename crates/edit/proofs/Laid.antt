@@ -8,7 +8,7 @@ use mathlib.Core.Path.{◌≡◌, sym, ap, ◌∙◌}
 use mathlib.Core.List.{List, ◌++◌}
 use lib.ListN.{length, take, drop, replicate, length-append, length-drop, length-replicate, take-append-drop}
 use lib.Seq.{length-take-le, drop-append-add, drop-drop}
-use Rattle.words.specs.declared.Answer.TheVariants.{Done}
+use Rattle.std.specs.Prelude.{Ok}
 use Rattle.model.specs.Row.{Table, keys}
 use Rattle.model.specs.Layer.{Layer}
 use Rattle.model.specs.Raw.{layer_of, flat}
@@ -78,7 +78,7 @@ laid_length ys old raw h g =
     )
 
 -- An accepted call: what it leaves.
-module _ (c m : ℕ) (raw : List ℕ) (T : Table) (x : Step) (k : ℕ) (l : Lent c T x) (h : step_answer c m raw T x ≡ Done k) where
+module _ (c m : ℕ) (raw : List ℕ) (T : Table) (x : Step) (k : ℕ) (l : Lent c T x) (h : step_answer c m raw T x ≡ Ok k) where
   -- the layer before and after it, and the slice after it
   abbrev was : Layer
   was = layer_of c m raw
@@ -124,7 +124,7 @@ module _ (c m : ℕ) (raw : List ℕ) (T : Table) (x : Step) (k : ℕ) (l : Lent
       ap length call.form.numbers ∙ (length-take-le (m * (c + 2)) raw call.form.held.room
       ∙ ap (λ (n : ℕ). n * (c + 2)) (sym call.form.size))
 
-  pub own_slice : (j : ℕ) → edited c m (Done j) was raw ≡ raw
+  pub own_slice : (j : ℕ) → edited c m (Ok j) was raw ≡ raw
   own_slice j =
       sym (laid_edited c m j was raw own_numbers)
       ∙ (ap (λ (ys : List ℕ). laid ys (m * (c + 2)) raw) call.form.numbers
@@ -132,7 +132,7 @@ module _ (c m : ℕ) (raw : List ℕ) (T : Table) (x : Step) (k : ℕ) (l : Lent
 
   -- a layer of no fewer entries laid over what is left lies as if it had been laid at once
   pub over_left : (N : Layer) (i j : ℕ) → length (flat c N) ≡ length N * (c + 2) → k ≤ length N
-      → edited c k (Done i) N after ≡ edited c m (Done j) N raw
+      → edited c k (Ok i) N after ≡ edited c m (Ok j) N raw
   over_left N i j n g =
       sym (laid_edited c k i N after n)
       ∙ (ap (laid (flat c N) (k * (c + 2))) left_laid

@@ -11,13 +11,13 @@ use mathlib.Core.List.{List, [], ◌∷◌, ◌++◌}
 use lib.ListN.{length, drop, replicate, length-append}
 use lib.Dec.{leb}
 use borrow.Author.Tests.{le-leb}
+use Rattle.words.specs.Answer.{Answer}
+use Rattle.std.specs.Prelude.{Ok, Err}
 use Rattle.order.specs.Lists.{in_turn}
 use Rattle.order.proofs.Tests.{and_of}
 use Rattle.order.proofs.Pairs.{pairs_weaker}
 use Rattle.order.proofs.Ascending.{of_asc}
 use Rattle.words.specs.declared.Refusal.{Refusal}
-use Rattle.words.specs.declared.Answer.{Answer}
-use Rattle.words.specs.declared.Answer.TheVariants.{Done, Refused}
 use Rattle.model.specs.Row.{Table, key, keys, column}
 use Rattle.model.specs.Layer.{Layer, rows_after}
 use Rattle.model.specs.Raw.{entries_at, layer_of, flat}
@@ -46,13 +46,13 @@ module _ (c m : ℕ) (raw : List ℕ) (T : Table) (x : Step) (r : Answer) (new :
   with_answer : (a : Answer) → r ≡ a → new ≡ edited c m a (step_on T x (layer_of c m raw)) raw
   with_answer a e = o.1 ∙ ap (λ (t : Answer). edited c m t (step_on T x (layer_of c m raw)) raw) (sym o.0 ∙ e)
 
-  pub accepted_outcome : (k : ℕ) → r ≡ Done k → (step_answer c m raw T x ≡ Done k) × (new ≡ step_slice c m raw T x k)
-  accepted_outcome k e = (sym o.0 ∙ e, with_answer (Done k) e)
+  pub accepted_outcome : (k : ℕ) → r ≡ Ok k → (step_answer c m raw T x ≡ Ok k) × (new ≡ step_slice c m raw T x k)
+  accepted_outcome k e = (sym o.0 ∙ e, with_answer (Ok k) e)
 
-  pub refused_outcome : (y : Refusal) → r ≡ Refused y → new ≡ raw
-  refused_outcome y e = with_answer (Refused y) e
+  pub refused_outcome : (y : Refusal) → r ≡ Err y → new ≡ raw
+  refused_outcome y e = with_answer (Err y) e
 
-module _ (c m : ℕ) (raw : List ℕ) (T : Table) (x : Step) (k : ℕ) (l : Lent c T x) (h : step_answer c m raw T x ≡ Done k) where
+module _ (c m : ℕ) (raw : List ℕ) (T : Table) (x : Step) (k : ℕ) (l : Lent c T x) (h : step_answer c m raw T x ≡ Ok k) where
   abbrev K : List ℕ
   K = keys T
 
@@ -121,10 +121,10 @@ module _ (c m : ℕ) (raw : List ℕ) (T : Table) (x : Step) (k : ℕ) (l : Lent
       (rw edit_layer (pairs_weaker before follows M (λ d e n l g. before_follows d e g) R.good.fit.sorted))
       (rw edit_layer A.rows)
 
-  pub edit_next_form : form_answer c (length T) k after ≡ Done (rows_after (length T) M)
+  pub edit_next_form : form_answer c (length T) k after ≡ Ok (rows_after (length T) M)
   edit_next_form = rw edit_layer at next_form
 
-  pub edit_next : fit_answer c k after K ≡ Done 0
+  pub edit_next : fit_answer c k after K ≡ Ok 0
   edit_next = ready_fits (record {
     form = rw (keys_length T) next_form;
     keys = of_asc key T A.rising;

@@ -1,6 +1,6 @@
 -- What a renumbering is beside the other calls: a strike and an add in one; what it needs of the room; and there and back again.
 -- Assumes nothing.
-use Prim.Native.Nat.{ℕ, suc, ◌+◌, ◌*◌, ◌-◌, ◌≤◌, ◌<◌}
+use Prim.Native.Nat.{ℕ, suc, ◌+◌, ◌*◌, ◌≤◌, ◌<◌}
 use native.Mathlib.Omega.{arith}
 use mathlib.Core.Path.{◌≡◌, refl, sym, ap, ◌∙◌}
 use mathlib.Core.Logic.{inl, inr, ⊎_elim, ◌↔◌}
@@ -9,18 +9,22 @@ use mathlib.Core.List.{List, [], ◌∷◌, ◌++◌, Memᴰ as Mem}
 use lib.ListN.{length, get_or}
 use lib.Dec.{eqb}
 use borrow.Author.Tests.{eqb-false}
+use Rattle.words.specs.declared.Origin.{Origin}
+use Rattle.words.specs.declared.Origin.TheVariants.{Base as base, Added as added}
+use Rattle.words.specs.declared.Cause.{Cause}
+use Rattle.words.specs.declared.Cause.TheVariants.{NoSuchRow, KeyShown, NoRoom}
+use Rattle.std.specs.Prelude.{Ok, Err}
 use Rattle.order.specs.Lists.{any, count, without}
 use Rattle.order.proofs.Tests.{or_false}
 use Rattle.order.proofs.Members.{insert_mem, mem_insert}
 use Rattle.order.proofs.Ascending.{AscFrom, At, mem_at, at_length, at_get_or, at_cast, get_or_at}
 use Rattle.order.proofs.Edited.{filter_without}
-use Rattle.words.specs.declared.Answer.TheVariants.{Done, Refused}
-use Rattle.words.specs.Answer.{refusal}
+use Rattle.words.specs.Answer.{cause_number, refusal}
 use Rattle.model.specs.Row.{Row, Table, key, keys, with_key}
 use Rattle.model.specs.Layer.{Layer, rows_after, changes_row}
 use Rattle.model.specs.Raw.{layer_of, room}
 use Rattle.model.specs.Read.{read, keys_after}
-use Rattle.model.specs.Position.{Origin, base, added, back}
+use Rattle.model.specs.Position.{back}
 use Rattle.model.specs.Edits.{add_row, strike_base, strike_origin, strike_row, renumber_row, row_of_key}
 use Rattle.model.specs.Redo.{row_before, add_key, strike_key}
 use Rattle.model.specs.Steps.{adding, striking, renumbering, Allowed}
@@ -54,7 +58,7 @@ use Rattle.edit.proofs.Laid.{left_numbers, edit_length, left_sound, own_numbers,
 renumber_done : (c m : ℕ) (raw : List ℕ) (T : Table) (r g : ℕ) → Wide c T → Sound c m raw (keys T)
     → Allowed c (renumbering r g) (read T (layer_of c m raw)) → (k : ℕ)
     → length (renumber_row T r g (layer_of c m raw)) ≡ k → k ≤ room c (length raw)
-    → step_answer c m raw T (renumbering r g) ≡ Done k
+    → step_answer c m raw T (renumbering r g) ≡ Ok k
 renumber_done c m raw T r g wide S a k e f =
     let w = (renumber_allowed c m raw T r g S wide).1 a in
     let M = renumber_row T r g (layer_of c m raw) in
@@ -62,30 +66,33 @@ renumber_done c m raw T r g wide S a k e f =
     (w.0, (w.1, ((room_exactly c (length raw) (length M)).0 (omega arith), tt))) in
     (renumber_over_table true (true ≡ true) (λ x. x, λ x. x) c m raw T r g).done.1
     ((S.args, refl), (S.form, (S.ascends, (S.fit, own))))
-    ∙ ap Done e
+    ∙ ap Ok e
 
 -- lines that do not have a refusal's number pass, and the others decide
-passed_lines : (ls us : List Line) (k p : ℕ) → any (eqb k) (numbers ls) ≡ false → RefusedBy k p (ls ++ us)
+passed_lines : (ls us : List Line) (k : Cause) (p : ℕ) → any (eqb (cause_number k)) (numbers ls) ≡ false → RefusedBy k p (ls ++ us)
     → Pass ls × RefusedBy k p us
 passed_lines [] us k p n w = (tt, w)
 passed_lines (line l z W ∷ ls) us k p n (inl w) =
-    absurd (eqb-false k l (or_false (eqb k l) (any (eqb k) (numbers ls)) n).0 w.1)
+    let a = cause_number k in
+    let b = cause_number l in
+    absurd (eqb-false a b (or_false (eqb a b) (any (eqb a) (numbers ls)) n).0 (ap cause_number w.1))
 passed_lines (line l z W ∷ ls) us k p n (inr w) =
-    let v = passed_lines ls us k p (or_false (eqb k l) (any (eqb k) (numbers ls)) n).1 w.1 in
+    let a = cause_number k in
+    let v = passed_lines ls us k p (or_false (eqb a (cause_number l)) (any (eqb a) (numbers ls)) n).1 w.1 in
     ((w.0, v.0), v.1)
 
 -- where a renumbering is refused with 9, all lines before it pass
 refused_nine : (c m : ℕ) (raw : List ℕ) (T : Table) (r g : ℕ)
-    → step_answer c m raw T (renumbering r g) ≡ Refused (refusal 9 0)
+    → step_answer c m raw T (renumbering r g) ≡ Err (refusal NoRoom 0)
     → Sound c m raw (keys T) × (r < rows_after (length (keys T)) (layer_of c m raw))
     × (Elsewhere g r (keys_after (keys T) (layer_of c m raw)) → ⊥)
 refused_nine c m raw T r g e =
     let L = layer_of c m raw in
     let K = keys T in
-    let own = line 5 0 (r < rows_after (length K) L) ∷ line 7 0 (Elsewhere g r (keys_after K L) → ⊥) ∷ [] in
+    let own = line NoSuchRow 0 (r < rows_after (length K) L) ∷ line KeyShown 0 (Elsewhere g r (keys_after K L) → ⊥) ∷ [] in
     let w = (passed_lines (form_lines (ArgsPass c (length K) m (length raw) × (true ≡ true)) c (length K) m raw
-    ++ (fit_lines K L ++ own)) (line 9 0 (Roomy c (length raw) (length (renumber_row T r g L))) ∷ []) 9 0 refl
-    (((renumber_over_table true (true ≡ true) (λ x. x, λ x. x) c m raw T r g).refuses 9 0).0 e)).0 in (
+    ++ (fit_lines K L ++ own)) (line NoRoom 0 (Roomy c (length raw) (length (renumber_row T r g L))) ∷ []) NoRoom 0 refl
+    (((renumber_over_table true (true ≡ true) (λ x. x, λ x. x) c m raw T r g).refuses NoRoom 0).0 e)).0 in (
       sound_of c m raw K m w.0.0 w.1.0 w.1.1.0 w.1.1.1.0,
       w.1.1.1.1.0,
       w.1.1.1.1.1.0,
@@ -103,7 +110,7 @@ module _ (c m : ℕ) (raw : List ℕ) (T : Table) (r : ℕ) where
   q = get_or (read T L) r []
 
   -- a layer that the check accepts passes 1 to 4, and shows as many rows as it says
-  ready_sound : (rows : ℕ) → ready_answer c m raw K ≡ Done rows → Sound c m raw K × (rows ≡ rows_after (length K) L)
+  ready_sound : (rows : ℕ) → ready_answer c m raw K ≡ Ok rows → Sound c m raw K × (rows ≡ rows_after (length K) L)
   ready_sound rows h =
       let w = counts (ready_table c m raw K) rows h in
       (sound_of c m raw K rows w.1.0 w.1.1.0 w.1.1.1.0 w.1.1.1.1.0, w.0)
@@ -123,26 +130,26 @@ module _ (c m : ℕ) (raw : List ℕ) (T : Table) (r : ℕ) where
   struck_by o e = ap (strike_origin K L) (stands e)
 
   -- its own number is accepted in every layer that the check accepts, full or not
-  pub own_accepted : (rows : ℕ) → ready_answer c m raw K ≡ Done rows → r < rows
-      → step_answer c m raw T (renumbering r (key q)) ≡ Done m
+  pub own_accepted : (rows : ℕ) → ready_answer c m raw K ≡ Ok rows → r < rows
+      → step_answer c m raw T (renumbering r (key q)) ≡ Ok m
   own_accepted rows h b =
       let w = ready_sound rows h in
       ((renumber_over_lem true c m raw T r (key q) w.0 refl (omega (arith, w.1))).own (shown_key_lem w.0)).0
 
   -- and leaves the entries and the slice as they are
-  pub own_number : (k : ℕ) → Wide c T → step_answer c m raw T (renumbering r (key q)) ≡ Done k
+  pub own_number : (k : ℕ) → Wide c T → step_answer c m raw T (renumbering r (key q)) ≡ Ok k
       → (k ≡ m) × (step_slice c m raw T (renumbering r (key q)) k ≡ raw)
   own_number k wide h =
       let A = accepts c m raw T (renumbering r (key q)) k wide h in
       let e : renumber_row T r (key q) L ≡ L = same_layer T L r (key q) refl in (
         sym A.size ∙ (ap length e ∙ layer_length c m raw),
-        ap (λ (N : Layer). edited c m (Done k) N raw) e ∙ own_slice c m raw T (renumbering r (key q)) k wide h k,
+        ap (λ (N : Layer). edited c m (Ok k) N raw) e ∙ own_slice c m raw T (renumbering r (key q)) k wide h k,
       )
 
   module _ (g : ℕ) where
     -- The two calls: the row struck, then added with the new number, both accepted.
-    module _ (other : key q ≡ g → ⊥) (k₁ k₂ : ℕ) (strikes : step_answer c m raw T (striking r) ≡ Done k₁)
-        (adds : step_answer c k₁ (step_slice c m raw T (striking r) k₁) T (adding (with_key g q)) ≡ Done k₂) where
+    module _ (other : key q ≡ g → ⊥) (k₁ k₂ : ℕ) (strikes : step_answer c m raw T (striking r) ≡ Ok k₁)
+        (adds : step_answer c k₁ (step_slice c m raw T (striking r) k₁) T (adding (with_key g q)) ≡ Ok k₂) where
       abbrev halfway : List ℕ
       halfway = step_slice c m raw T (striking r) k₁
 
@@ -176,7 +183,7 @@ module _ (c m : ℕ) (raw : List ℕ) (T : Table) (r : ℕ) where
           (e ∙ sym (with_key_lem g q (omega (arith, long, some))))
 
       -- the renumbering is accepted too, and leaves the slice as they do
-      pub as_two_calls : Wide c T → (step_answer c m raw T (renumbering r g) ≡ Done k₂)
+      pub as_two_calls : Wide c T → (step_answer c m raw T (renumbering r g) ≡ Ok k₂)
           × (step_slice c m raw T (renumbering r g) k₂
           ≡ step_slice c k₁ (step_slice c m raw T (striking r) k₁) T (adding (with_key g q)) k₂)
       as_two_calls wide =
@@ -186,14 +193,14 @@ module _ (c m : ℕ) (raw : List ℕ) (T : Table) (r : ℕ) where
             renumber_done c m raw T r g wide (strike_sound c m raw K k₁ r strikes) (first.allowed, some, long, free) k₂
                 (ap length same_left ∙ size)
                 (omega (arith, second.room, ap (room c) (edit_length c m raw T (striking r) k₁ tt strikes))),
-            ap (λ (X : Layer). edited c m (Done k₂) X raw) same_left
+            ap (λ (X : Layer). edited c m (Ok k₂) X raw) same_left
                 ∙ sym (over_left c m raw T (striking r) k₁ tt strikes N k₂ k₂
                 (numbers ∙ ap (λ (n : ℕ). n * (c + 2)) (sym size))
                 (omega (arith, add_length K (with_key g q) (layer_of c k₁ halfway), layer_length c k₁ halfway))),
           )
 
     -- An accepted renumbering: its layer passes 1 to 4, shows the row, and shows the number in no other row.
-    module _ (k : ℕ) (wide : Wide c T) (h : step_answer c m raw T (renumbering r g) ≡ Done k) where
+    module _ (k : ℕ) (wide : Wide c T) (h : step_answer c m raw T (renumbering r g) ≡ Ok k) where
       accepted : Accepts c m raw T (renumbering r g) k
       accepted = accepts c m raw T (renumbering r g) k wide h
 
@@ -208,7 +215,7 @@ module _ (c m : ℕ) (raw : List ℕ) (T : Table) (r : ℕ) where
           × ((s : ℕ) → back (length T) L r ≡ base s → (key q ≡ g → ⊥) → k + count (changes_row s) L ≡ m + 2)
       renumber_room =
           let W = renumber_over_lem true c m raw T r g old_sound refl within.0 in (
-            λ i e. let d : Done k ≡ Done m = sym h ∙ W.added_row_lem within.1 i (stands e) in cc,
+            λ i e. let d : Ok k ≡ Ok m = sym h ∙ W.added_row_lem within.1 i (stands e) in cc,
             λ s e other.
                 omega (
                   arith,
@@ -269,7 +276,7 @@ module _ (c m : ℕ) (raw : List ℕ) (T : Table) (r : ℕ) where
 
       -- so it is accepted, if it needs no more entries
       back_done : (j : ℕ) → length (renumber_row T r' (key q) (layer_of c k new)) ≡ j → j ≤ k
-          → step_answer c k new T (renumbering r' (key q)) ≡ Done j
+          → step_answer c k new T (renumbering r' (key q)) ≡ Ok j
       back_done j e f =
           renumber_done c k new T r' (key q) wide (left_sound c m raw T (renumbering r g) k wide h) back_allowed j e
           (omega (arith, accepted.room, ap (room c) (edit_length c m raw T (renumbering r g) k wide h)))
@@ -282,7 +289,7 @@ module _ (c m : ℕ) (raw : List ℕ) (T : Table) (r : ℕ) where
 
         -- an added row: as many entries, and the slice, as there were at first
         pub back_again_added : (i : ℕ) → back (length T) L r ≡ added i
-            → (step_answer c k new T (renumbering r' (key q)) ≡ Done m) × (k ≡ m)
+            → (step_answer c k new T (renumbering r' (key q)) ≡ Ok m) × (k ≡ m)
             × (step_slice c k new T (renumbering r' (key q)) m ≡ raw)
         back_again_added i o =
             let w = accepted.allowed in
@@ -293,7 +300,7 @@ module _ (c m : ℕ) (raw : List ℕ) (T : Table) (r : ℕ) where
             let y = renumbering r g in (
               back_done m (ap length b ∙ layer_length c m raw) (omega arith),
               e,
-              ap (λ (N : Layer). edited c k (Done m) N new) b
+              ap (λ (N : Layer). edited c k (Ok m) N new) b
                   ∙ (over_left c m raw T y k wide h L m m (own_numbers c m raw T y k wide h)
                   (omega (arith, layer_length c m raw))
                   ∙ own_slice c m raw T y k wide h m),
@@ -301,7 +308,7 @@ module _ (c m : ℕ) (raw : List ℕ) (T : Table) (r : ℕ) where
 
         -- a base row: struck, and added with its own number; as many entries as the first renumbering left
         pub back_again_base : (s : ℕ) → back (length T) L r ≡ base s
-            → (step_answer c k new T (renumbering r' (key q)) ≡ Done k)
+            → (step_answer c k new T (renumbering r' (key q)) ≡ Ok k)
             × (layer_of c k (step_slice c k new T (renumbering r' (key q)) k) ≡ add_row K q (strike_base K s L))
         back_again_base s o =
             let w = accepted.allowed in
@@ -319,20 +326,20 @@ module _ (c m : ℕ) (raw : List ℕ) (T : Table) (r : ℕ) where
               ap length (struck_by (base s) o),
               accepted.size,
             ) in
-            let a : step_answer c k new T (renumbering r' (key q)) ≡ Done k = back_done k n (omega arith) in
+            let a : step_answer c k new T (renumbering r' (key q)) ≡ Ok k = back_done k n (omega arith) in
             (a, edit_layer c k new T (renumbering r' (key q)) k wide a ∙ b)
 
     -- Refusal 9: an added row's renumbering never meets it.
     pub added_never_nine : (i : ℕ) → back (length T) L r ≡ added i
-        → step_answer c m raw T (renumbering r g) ≡ Refused (refusal 9 0) → ⊥
+        → step_answer c m raw T (renumbering r g) ≡ Err (refusal NoRoom 0) → ⊥
     added_never_nine i o e =
         let w = refused_nine c m raw T r g e in
         never_done (sym e ∙ (renumber_over_lem true c m raw T r g w.0 refl w.1).added_row_lem w.2 i (stands o))
 
     -- A base row that may get another number meets it exactly where two more entries, less its changes, pass the room.
-    module _ (rows : ℕ) (ready : ready_answer c m raw K ≡ Done rows) (wide : Wide c T)
+    module _ (rows : ℕ) (ready : ready_answer c m raw K ≡ Ok rows) (wide : Wide c T)
         (may : Allowed c (renumbering r g) (read T L)) (other : key q ≡ g → ⊥) (s : ℕ) (o : back (length T) L r ≡ base s) where
-      pub base_nine : (step_answer c m raw T (renumbering r g) ≡ Refused (refusal 9 0))
+      pub base_nine : (step_answer c m raw T (renumbering r g) ≡ Err (refusal NoRoom 0))
           ↔ (room c (length raw) + count (changes_row s) L < m + 2)
       base_nine =
           let S = (ready_sound rows ready).0 in
@@ -350,5 +357,5 @@ module _ (c m : ℕ) (raw : List ℕ) (T : Table) (r : ℕ) where
 
       -- in a full layer exactly where it has fewer than two changes
       pub full_base_nine : room c (length raw) ≡ m
-          → (step_answer c m raw T (renumbering r g) ≡ Refused (refusal 9 0)) ↔ (count (changes_row s) L < 2)
+          → (step_answer c m raw T (renumbering r g) ≡ Err (refusal NoRoom 0)) ↔ (count (changes_row s) L < 2)
       full_base_nine f = (λ e. omega (arith, base_nine.0 e), λ b. base_nine.1 (omega arith))

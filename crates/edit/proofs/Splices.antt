@@ -1,29 +1,32 @@
 -- An accepted edit is one move. Of the layer's edits one run goes, and at most one edit comes in its place; of a renumbering
 -- two runs. In the slice it is one splice, two, or one value set.
 -- Assumes nothing.
-use Prim.Native.Nat.{ℕ, ◌+◌, ◌-◌, ◌≤◌, ◌<◌}
+use Prim.Native.Nat.{ℕ, ◌+◌, ◌≤◌, ◌<◌}
 use native.Mathlib.Omega.{arith}
 use mathlib.Core.Path.{◌≡◌, refl, sym, ap, ◌∙◌}
 use mathlib.Core.Bool.{Bool, true, false, not, ◌||◌, true≢false}
 use mathlib.Core.List.{List, [], ◌∷◌}
 use lib.ListN.{length, drop}
+use Rattle.words.specs.declared.Origin.{Origin}
+use Rattle.words.specs.declared.Origin.TheVariants.{Base as base, Added as added}
+use Rattle.std.specs.Prelude.{Some, Ok}
 use Rattle.order.specs.Lists.{one, any, count, filter}
 use Rattle.order.proofs.Counts.{length_insert, filter_count}
-use Rattle.words.specs.declared.Answer.TheVariants.{Done}
 use Rattle.model.specs.Row.{Table, keys}
 use Rattle.model.specs.Cell.{CellEdit, to}
 use Rattle.model.specs.Layer.{at, change, Layer, rows_after, changes_cell}
 use Rattle.model.specs.Raw.{Held, layer_of}
 use Rattle.words.specs.Entry.{change_entry}
 use Rattle.model.specs.Read.{read}
-use Rattle.model.specs.Position.{Origin, base, added, back}
+use Rattle.model.specs.Position.{back}
 use Rattle.model.specs.Edits.{before, composed, change_base, change_row_no}
 use Rattle.model.specs.Steps.{Step, adding, striking, changing, renumbering, step_on}
-use Rattle.model.specs.Calls.{origin_answer}
 use Rattle.theory.proofs.Fit.{keys_length}
 use Rattle.theory.proofs.Count.{read_length}
-use Rattle.enter.specs.Move.{Move, number, count_after}
-use Rattle.write.specs.Plans.{Plans, splices, sets, OneRun, OneSplice}
+use Rattle.enter.specs.declared.Move.{Move}
+use Rattle.enter.specs.declared.Move.TheVariants.{Number as number}
+use Rattle.enter.specs.Move.{count_after}
+use Rattle.write.specs.Plans.{Plans, splices, OneRun, OneSplice}
 use Rattle.store.proofs.Laws.{in_room}
 use Rattle.write.proofs.Layers.{plan_splice, plan_count, plan_done, plan_within}
 use Rattle.landing.specs.Landing.{aim, landing, changes_first}
@@ -89,14 +92,14 @@ module _ (c m : ℕ) (raw : List ℕ) (T : Table) where
       abbrev base_move : ℕ → Bool → Move
       base_move s t =
           one_of t (record { i = spot s; j = 0; v = v })
-          (record { i = spot s; gone = 0; comes = 1; entry = change_entry s j v })
+          (record { i = spot s; gone = 0; comes = Some (change_entry s j v) })
 
       base_plans : (s : ℕ) (t : Bool) → t ≡ changes_first s j (drop (spot s) L)
           → Plans c L (change_base s j (to v) L) (base_move s t)
       base_plans s t q = change_plans N s j v (spot s) l g refl t q (change_entry s j v) refl
 
       added_plans : (i : ℕ) → back (length K) L r ≡ added i → Plans c L (change_row_no K r j (to v) L) (value_at i j)
-      added_plans i e = change_of_added N r h j v i (ap origin_answer e) g
+      added_plans i e = change_of_added N r h j v i e g
 
       changed_move : (o : Origin) → back (length K) L r ≡ o → Plans c L (change_row_no K r j (to v) L) (change_move L j v o)
       changed_move (base s) e =
@@ -141,7 +144,7 @@ module _ (c m : ℕ) (raw : List ℕ) (T : Table) where
         slice = sym (plan_done c m raw L W P k);
       }
 
-  module _ (x : Step) (k : ℕ) (l : Lent c T x) (h : step_answer c m raw T x ≡ Done k) where
+  module _ (x : Step) (k : ℕ) (l : Lent c T x) (h : step_answer c m raw T x ≡ Ok k) where
     pub edit_splice : OneRun (move_for T L x) → OneSplice L (step_on T x L)
     edit_splice o = plan_splice (moved x k (accepts c m raw T x k l h)) o
 
@@ -155,14 +158,14 @@ module _ (c m : ℕ) (raw : List ℕ) (T : Table) where
     one_move = whole_move.0
 
   -- the same of what its contract allows
-  pub allowed_move : (x : Step) (k : ℕ) (new : List ℕ) → Lent c T x → Allows c m raw T x (Done k) new
+  pub allowed_move : (x : Step) (k : ℕ) (new : List ℕ) → Lent c T x → Allows c m raw T x (Ok k) new
       → OneMove c m raw (move_for T L x) k new
   allowed_move x k new l o =
-      let w = accepted_outcome c m raw T x (Done k) new o k refl in
+      let w = accepted_outcome c m raw T x (Ok k) new o k refl in
       rw w.1 (one_move x k l w.0)
 
   -- a change of a cell of which the layer holds a value sets one number alone
-  pub value_alone : (r j v k : ℕ) → step_answer c m raw T (changing r j (to v)) ≡ Done k
+  pub value_alone : (r j v k : ℕ) → step_answer c m raw T (changing r j (to v)) ≡ Ok k
       → holds_cell j L (back (length K) L r) ≡ true
       → OneNumber c m raw v k (step_slice c m raw T (changing r j (to v)) k)
   value_alone r j v k h q =

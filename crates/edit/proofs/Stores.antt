@@ -19,7 +19,9 @@ use Rattle.model.specs.Raw.{Held}
 use Rattle.splice.specs.declared.Splice.{Splice}
 use Rattle.enter.specs.declared.Value.{Value}
 use Rattle.splice.specs.Splice.{between, begins, fresh, resumes, laid, spliced_two}
-use Rattle.enter.specs.Move.{none_at, number_at, Move, entries, both, number, Within, entered, count_after}
+use Rattle.enter.specs.declared.Move.{Move}
+use Rattle.enter.specs.declared.Move.TheVariants.{Entries as entries, Both as both, Number as number}
+use Rattle.enter.specs.Move.{none_at, number_at, Within, entered, count_after}
 use Rattle.splice.proofs.Runs.{all_written, result_length, between_length}
 use Rattle.splice.proofs.Laws.{max_mul, Lies, lies}
 use Rattle.enter.proofs.Laws.{two_none}
@@ -334,7 +336,7 @@ module _ (c m : ℕ) (xs : List ℕ) where
     as_both : Enterable c m xs (both p none)
     as_both = record {
       held = F.held;
-      within = record { first = F.within.0; second = omega arith; few = F.within.1; few₂ = omega arith };
+      within = record { first = F.within; second = omega arith };
       whole = (F.whole, sym (zero-mul (c + 2)));
       room = rw same_count F.room;
     }

@@ -12,7 +12,7 @@ use lib.Dec.{leb}
 use contract.Lifetimes.{Lfts}
 use denote.Triple.Clauses.{AtExit}
 use borrow.Fn.Kinds.{Dens, ended_of}
-use Rattle.words.specs.declared.Answer.{Answer}
+use Rattle.words.specs.Answer.{Answer}
 use Rattle.model.specs.Row.{Table, keys, columnwise}
 use Rattle.model.specs.Cell.{to}
 use Rattle.model.specs.Steps.{Step, adding, striking, changing, renumbering}

@@ -1,12 +1,16 @@
 -- Which move of a layer's slice an edit is; what an accepted one leaves; and when that is one value alone.
+use Rattle.words.specs.declared.Origin.{Origin}
+use Rattle.words.specs.declared.Origin.TheVariants.{Base as base, Added as added}
 use Rattle.std.specs.Prelude.{◌≡◌, Bool, true, List, ℕ, ◌+◌, ◌*◌, ◌≤◌, ◌<◌, length, set}
 use Rattle.order.specs.Lists.{any}
 use Rattle.model.specs.Row.{Table, keys}
 use Rattle.model.specs.Cell.{to}
 use Rattle.model.specs.Layer.{Layer, changes_cell}
-use Rattle.model.specs.Position.{Origin, base, added, back}
+use Rattle.model.specs.Position.{back}
 use Rattle.model.specs.Steps.{Step, adding, striking, changing, renumbering}
-use Rattle.enter.specs.Move.{number_at, Move, entries, Within, entered, count_after}
+use Rattle.enter.specs.declared.Move.{Move}
+use Rattle.enter.specs.declared.Move.TheVariants.{Entries as entries}
+use Rattle.enter.specs.Move.{number_at, Within, entered, count_after}
 use Rattle.plan.specs.Moves.{add_splice, strike_splice, change_move, renumber_move}
 
 -- the move that an edit of a layer over this table is

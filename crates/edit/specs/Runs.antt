@@ -1,7 +1,6 @@
 -- One step of an operator as a call, and a run of calls that are all accepted.
-use Rattle.std.specs.Prelude.{◌≡◌, true, List, [], ◌∷◌, ℕ}
-use Rattle.words.specs.declared.Answer.{Answer}
-use Rattle.words.specs.declared.Answer.TheVariants.{Done}
+use Rattle.words.specs.Answer.{Answer}
+use Rattle.std.specs.Prelude.{◌≡◌, true, List, [], ◌∷◌, ℕ, Ok}
 use Rattle.model.specs.Row.{Table, keys}
 use Rattle.model.specs.Cell.{to}
 use Rattle.model.specs.Raw.{layer_of}
@@ -30,10 +29,10 @@ Allows c m raw T x r new =
 
 -- what the slice holds after it was accepted
 abbrev pub step_slice : ℕ → ℕ → List ℕ → Table → Step → ℕ → List ℕ
-step_slice c m raw T x k = edited c m (Done k) (step_on T x (layer_of c m raw)) raw
+step_slice c m raw T x k = edited c m (Ok k) (step_on T x (layer_of c m raw)) raw
 
 -- a run of accepted calls takes m entries in one slice to m' in another
 pub data Ran (c : ℕ) (T : Table) : List Step → ℕ → List ℕ → ℕ → List ℕ → Type 0 where
   still : {m : ℕ} {raw : List ℕ} → Ran c T [] m raw m raw
-  first : {x : Step} {xs : List Step} {m k m' : ℕ} {raw raw' : List ℕ} → Lent c T x → step_answer c m raw T x ≡ Done k
+  first : {x : Step} {xs : List Step} {m k m' : ℕ} {raw raw' : List ℕ} → Lent c T x → step_answer c m raw T x ≡ Ok k
       → Ran c T xs k (step_slice c m raw T x k) m' raw' → Ran c T (x ∷ xs) m raw m' raw'

@@ -4,7 +4,9 @@ use Rattle.std.proofs.Math.Seq.{paste}
 use Rattle.order.specs.Lists.{count}
 use Rattle.splice.specs.declared.Splice.{Splice}
 use Rattle.splice.specs.Splice.{between, begins, fresh, resumes}
-use Rattle.enter.specs.Move.{number_at, Move, entries, both, number, count_after}
+use Rattle.enter.specs.declared.Move.{Move}
+use Rattle.enter.specs.declared.Move.TheVariants.{Entries as entries, Both as both, Number as number}
+use Rattle.enter.specs.Move.{number_at, count_after}
 use Rattle.edit.specs.OneMove.{OneMove}
 
 -- a store: these numbers, from `at` on

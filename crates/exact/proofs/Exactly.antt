@@ -1,5 +1,5 @@
--- The refusal table of the scope as lines: a number, a place, and the fact that passes the line. Tests that are such
--- lines refuse with a line's number and place exactly where all lines before it pass and it does not, and are done
+-- The refusal table of the scope as lines: a cause, a place, and the fact that passes the line. Tests that are such
+-- lines refuse for a line's cause and at its place exactly where all lines before it pass and it does not, and are done
 -- exactly where all pass.
 -- Assumes nothing.
 use Prim.Native.Nat.{ℕ, ◌+◌, ◌*◌, ◌≤◌, ◌/◌}
@@ -11,35 +11,35 @@ use mathlib.Core.Bool.{Bool, true, false, ◌&&◌, ◌||◌, true≢false}
 use mathlib.Core.List.{List, [], ◌∷◌, ◌++◌}
 use lib.Dec.{leb, eqb}
 use borrow.Author.Tests.{leb-true, le-leb}
+use Rattle.std.specs.Prelude.{Ok, Err}
 use Rattle.order.specs.Lists.{all}
 use Rattle.order.proofs.Tests.{and_l, and_r}
+use Rattle.words.specs.declared.Cause.{Cause}
 use Rattle.words.specs.declared.Refusal.{Refusal}
-use Rattle.words.specs.declared.Answer.{Answer}
-use Rattle.words.specs.declared.Answer.TheVariants.{Done, Refused}
 use Rattle.model.specs.Raw.{room}
 use Rattle.model.specs.Form.{args_ok}
 use Rattle.model.specs.Refusals.{Test, refuse, first_met}
-use Rattle.words.specs.Answer.{refusal}
+use Rattle.words.specs.Answer.{cause_number, refusal, Answer}
 use Rattle.theory.proofs.Stages.{never_done}
 
--- a line of the table: its number, its place, and what passes it
+-- a line of the table: its cause, its place, and what passes it
 pub data Line : Type 1 where
-  line : ℕ → ℕ → Type 0 → Line
+  line : Cause → ℕ → Type 0 → Line
 
 -- every line passes
 abbrev pub Pass : List Line → Type 0
 Pass [] = Unit {0}
 Pass (line k p W ∷ ls) = W × Pass ls
 
--- the first line that does not pass has this number and this place
-abbrev pub RefusedBy : ℕ → ℕ → List Line → Type 0
+-- the first line that does not pass has this cause and this place
+abbrev pub RefusedBy : Cause → ℕ → List Line → Type 0
 RefusedBy k p [] = ⊥
 RefusedBy k p (line l q W ∷ ls) = ((W → ⊥) × (k ≡ l) × (p ≡ q)) ⊎ (W × RefusedBy k p ls)
 
 -- the tests are these lines, each where those before it pass
 pub data Says : List Test → List Line → Type 1 where
   none : Says [] []
-  step : {k p q : ℕ} {t : Bool} {W : Type 0} {ts : List Test} {ls : List Line} → p ≡ q → (t ≡ false) ↔ W
+  step : {k : Cause} {p q : ℕ} {t : Bool} {W : Type 0} {ts : List Test} {ls : List Line} → p ≡ q → (t ≡ false) ↔ W
       → (W → Says ts ls) → Says (refuse k p t ∷ ts) (line k q W ∷ ls)
 
 -- one list of tests after another
@@ -50,11 +50,12 @@ says_then (step e w s) f = step e w (λ v. says_then (s v) (λ u. f (v, u)))
 -- the numbers of the lines, in order; and the places are 0 but for 2, 4 and 8
 abbrev pub numbers : List Line → List ℕ
 numbers [] = []
-numbers (line k p W ∷ ls) = k ∷ numbers ls
+numbers (line k p W ∷ ls) = cause_number k ∷ numbers ls
 
 abbrev pub placed_only248 : List Line → Bool
 placed_only248 [] = true
-placed_only248 (line k p W ∷ ls) = (eqb k 2 || (eqb k 4 || (eqb k 8 || eqb p 0))) && placed_only248 ls
+placed_only248 (line k p W ∷ ls) =
+    (eqb (cause_number k) 2 || (eqb (cause_number k) 4 || (eqb (cause_number k) 8 || eqb p 0))) && placed_only248 ls
 
 abbrev pub never_fall : List ℕ → Bool
 never_fall [] = true
@@ -63,8 +64,8 @@ never_fall (k ∷ ks) = all (leb k) ks && never_fall ks
 -- an answer, and what it is where nothing is refused
 pub record Exactly {A : Type 0} (refused : Refusal → A) (answer result : A) (ls : List Line) : Type 0 where
   pub done : (answer ≡ result) ↔ Pass ls
-  pub refuses : (k p : ℕ) → (answer ≡ refused (refusal k p)) ↔ RefusedBy k p ls
-  pub either : (answer ≡ result) ⊎ ((k : ℕ) × (p : ℕ) × (answer ≡ refused (refusal k p)))
+  pub refuses : (k : Cause) (p : ℕ) → (answer ≡ refused (refusal k p)) ↔ RefusedBy k p ls
+  pub either : (answer ≡ result) ⊎ ((k : Cause) × (p : ℕ) × (answer ≡ refused (refusal k p)))
 
 module _ {A : Type 0} (refused : Refusal → A) (z : A)
     (apart : (x : Refusal) → refused x ≡ z → ⊥) (same : (x y : Refusal) → refused x ≡ refused y → x ≡ y) where
@@ -77,15 +78,15 @@ module _ {A : Type 0} (refused : Refusal → A) (z : A)
   of_done none v = refl
   of_done (step h w s) v = rw (w.1 v.0) (of_done (s v.0) v.1)
 
-  refused_of : {ts : List Test} {ls : List Line} → Says ts ls → (k p : ℕ) → first_met refused ts z ≡ refused (refusal k p)
+  refused_of : {ts : List Test} {ls : List Line} → Says ts ls → (k : Cause) (p : ℕ) → first_met refused ts z ≡ refused (refusal k p)
       → RefusedBy k p ls
   refused_of none k p e = apart (refusal k p) (sym e)
   refused_of (step {k = l} {p = q} {t = true} h w s) k p e =
       let x : refusal l q ≡ refusal k p = same (refusal l q) (refusal k p) e in
-      inl (λ v. true≢false (w.1 v), sym (ap (λ (y : Refusal). y.number) x), sym (ap (λ (y : Refusal). y.place) x) ∙ h)
+      inl (λ v. true≢false (w.1 v), sym (ap (λ (y : Refusal). y.cause) x), sym (ap (λ (y : Refusal). y.place) x) ∙ h)
   refused_of (step {t = false} h w s) k p e = let v = w.0 refl in inr (v, refused_of (s v) k p e)
 
-  of_refused : {ts : List Test} {ls : List Line} → Says ts ls → (k p : ℕ) → RefusedBy k p ls
+  of_refused : {ts : List Test} {ls : List Line} → Says ts ls → (k : Cause) (p : ℕ) → RefusedBy k p ls
       → first_met refused ts z ≡ refused (refusal k p)
   of_refused none k p v = absurd v
   of_refused (step {k = l} {p = q} {t = true} h w s) k p (inl v) =
@@ -97,7 +98,7 @@ module _ {A : Type 0} (refused : Refusal → A) (z : A)
   of_refused (step {t = false} h w s) k p (inr v) = of_refused (s v.0) k p v.1
 
   one_or_other : (ts : List Test)
-      → (first_met refused ts z ≡ z) ⊎ ((k : ℕ) × (p : ℕ) × (first_met refused ts z ≡ refused (refusal k p)))
+      → (first_met refused ts z ≡ z) ⊎ ((k : Cause) × (p : ℕ) × (first_met refused ts z ≡ refused (refusal k p)))
   one_or_other [] = inl refl
   one_or_other (refuse k p true ∷ ts) = inr (k, p, refl)
   one_or_other (refuse k p false ∷ ts) = one_or_other ts
@@ -111,11 +112,11 @@ module _ {A : Type 0} (refused : Refusal → A) (z : A)
 
 -- an answer that is a count
 pub exactly_counts : {ts : List Test} {ls : List Line} (r : ℕ) → Says ts ls
-    → Exactly Refused (first_met Refused ts (Done r)) (Done r) ls
-exactly_counts r s = exactly Refused (Done r) (λ x e. never_done e) (λ x y e. cc) s
+    → Exactly Err (first_met Err ts (Ok r)) (Ok r) ls
+exactly_counts r s = exactly Err (Ok r) (λ x e. never_done e) (λ x y e. cc) s
 
 -- done with some count: with that one, and every line passes
-pub counts : {a : Answer} {r : ℕ} {ls : List Line} → Exactly Refused a (Done r) ls → (k : ℕ) → a ≡ Done k
+pub counts : {a : Answer} {r : ℕ} {ls : List Line} → Exactly Err a (Ok r) ls → (k : ℕ) → a ≡ Ok k
     → (k ≡ r) × Pass ls
 counts {a} {r} x k e = ⊎_elim (λ h. (cc, x.done.0 h)) (λ w. never_done (sym w.2 ∙ e)) x.either
 
@@ -165,7 +166,7 @@ room_exactly c len k =
     (λ h. (omega arith, w.0 (omega arith)), λ h. let l = w.1 h.1 in omega arith)
 
 -- where the first lines pass, the others decide
-pub refused_past : (ls us : List Line) (k p : ℕ) → Pass ls → RefusedBy k p (ls ++ us) ↔ RefusedBy k p us
+pub refused_past : (ls us : List Line) (k : Cause) (p : ℕ) → Pass ls → RefusedBy k p (ls ++ us) ↔ RefusedBy k p us
 refused_past [] us k p w = (λ x. x, λ x. x)
 refused_past (line l q W ∷ ls) us k p w =
     let ih = refused_past ls us k p w.1 in

@@ -17,7 +17,9 @@ use Rattle.model.specs.Row.{key}
 use Rattle.model.specs.Cell.{to}
 use Rattle.model.specs.Layer.{add, strike, change, Edit, at, Layer, struck}
 use Rattle.model.specs.Fit.{above, under, suits, rises, fit_place}
-use Rattle.model.specs.Conflict.{same_cell, clash, met, clashes_with, conflict, conflict_place}
+use Rattle.std.specs.Prelude.{Some}
+use Rattle.words.specs.declared.Rule.TheVariants.{SameCell as same_cell}
+use Rattle.model.specs.Conflict.{clash, met, clashes_with, conflict, conflict_place}
 use Rattle.model.specs.Demand.{Conflicting}
 use Rattle.theory.proofs.Layer.{of_struck, struck_of}
 use Rattle.theory.proofs.Conflict.{conflicting, of_conflicting}
@@ -165,7 +167,7 @@ module _ (K : List ℕ) (L : Layer) where
       (λ h. w.0 (ltb-false (fit_place K L) (length L) h), λ f. le-ltb (fit_place K L) (length L) (w.1 f))
 
 -- two changes of one cell conflict exactly where their values differ
-pub values_exactly : (s j v w : ℕ) → (clash (at s (change j (to v))) (at s (change j (to w))) ≡ same_cell) ↔ (v ≡ w → ⊥)
+pub values_exactly : (s j v w : ℕ) → (clash (at s (change j (to v))) (at s (change j (to w))) ≡ Some same_cell) ↔ (v ≡ w → ⊥)
 values_exactly s j v w = (
   λ h e. true≢false (sym (ap met h) ∙ rw (eq-eqb s s refl, eq-eqb j j refl, eq-eqb v w e)),
   λ ne. rw (eq-eqb s s refl, eq-eqb j j refl, ne_eqb v w ne),

@@ -6,9 +6,9 @@ use mathlib.Core.Path.{◌≡◌, refl}
 use mathlib.Core.List.{List, [], ◌∷◌, ◌++◌}
 use lib.ListN.{replicate}
 use lib.IntN.{pos, negsuc}
-use Rattle.words.specs.declared.Answer.TheVariants.{Done, Refused}
-use Rattle.words.specs.declared.Shifted.TheVariants as shifted
-use Rattle.words.specs.declared.Back.TheVariants as backed
+use Rattle.words.specs.declared.Origin.TheVariants.{Base as base, Added as added}
+use Rattle.words.specs.declared.Cause.TheVariants.{BadArguments, BadForm, KeysUnordered, BadFit, NoSuchRow, KeyColumn, KeyShown, InConflict, NoRoom, ShortBuffer}
+use Rattle.std.specs.Prelude.{Ok, Err}
 use Rattle.model.specs.Row.{key, columnwise}
 use Rattle.model.specs.Cell.{put, to}
 use Rattle.model.specs.Layer.{add, strike, change, at, Layer}
@@ -100,45 +100,45 @@ abbrev slice27 : List ℕ
 slice27 = 2 ∷ 65535 ∷ 25 ∷ 7 ∷ 2 ∷ 65535 ∷ 27 ∷ 9 ∷ 2 ∷ 65534 ∷ 30 ∷ 0 ∷ (replicate 4 0 ++ tail)
 
 -- E1: through an empty layer both columns read as the base, to the front of the buffer
-pub e1_call : (read_answer 2 0 slice0 K4 0 6 ≡ Done 4) × (read_slice 2 0 slice0 K4 0 (replicate 4 0 ++ tail) ≡ K4 ++ tail)
-    × (read_answer 2 0 slice0 ones 1 6 ≡ Done 4) × (read_slice 2 0 slice0 ones 1 (replicate 4 0 ++ tail) ≡ ones ++ tail)
+pub e1_call : (read_answer 2 0 slice0 K4 0 6 ≡ Ok 4) × (read_slice 2 0 slice0 K4 0 (replicate 4 0 ++ tail) ≡ K4 ++ tail)
+    × (read_answer 2 0 slice0 ones 1 6 ≡ Ok 4) × (read_slice 2 0 slice0 ones 1 (replicate 4 0 ++ tail) ≡ ones ++ tail)
 unfolding read_answer args_ok breaks_form form_place layer_of entries_at
 e1_call = (refl, refl, refl, refl)
 
-pub e2_call : (add_answer 2 0 slice0 K4 (25 ∷ 7 ∷ []) ≡ Done 1) × (add_slice 2 0 slice0 K4 (25 ∷ 7 ∷ []) ≡ slice2)
+pub e2_call : (add_answer 2 0 slice0 K4 (25 ∷ 7 ∷ []) ≡ Ok 1) × (add_slice 2 0 slice0 K4 (25 ∷ 7 ∷ []) ≡ slice2)
 unfolding add_answer args_ok breaks_form form_place layer_of entries_at fit_place key add_row room flat
 e2_call = (refl, refl)
 
-pub e3_call : (strike_answer 2 1 slice2 K4 3 ≡ Done 2) × (strike_slice 2 1 slice2 K4 3 ≡ slice3)
+pub e3_call : (strike_answer 2 1 slice2 K4 3 ≡ Ok 2) × (strike_slice 2 1 slice2 K4 3 ≡ slice3)
 unfolding strike_answer args_ok breaks_form form_place layer_of entries_at fit_place key strike_row strike_base origins room flat
 e3_call = (refl, refl)
 
-pub e4_call : (add_answer 2 2 slice3 K4 (27 ∷ 9 ∷ []) ≡ Done 3) × (add_slice 2 2 slice3 K4 (27 ∷ 9 ∷ []) ≡ slice27)
-    × (add_answer 2 3 slice27 K4 (33 ∷ 5 ∷ []) ≡ Done 4) × (add_slice 2 3 slice27 K4 (33 ∷ 5 ∷ []) ≡ slice4 ++ tail)
+pub e4_call : (add_answer 2 2 slice3 K4 (27 ∷ 9 ∷ []) ≡ Ok 3) × (add_slice 2 2 slice3 K4 (27 ∷ 9 ∷ []) ≡ slice27)
+    × (add_answer 2 3 slice27 K4 (33 ∷ 5 ∷ []) ≡ Ok 4) × (add_slice 2 3 slice27 K4 (33 ∷ 5 ∷ []) ≡ slice4 ++ tail)
 unfolding add_answer args_ok breaks_form form_place layer_of entries_at fit_place key add_row room flat
 e4_call = (refl, refl, refl, refl)
 
 -- the slice is full: another entry gives 9; a key that is shown gives 7
-pub no_room_call : (add_answer 2 4 (slice4 ++ tail) K4 (50 ∷ 1 ∷ []) ≡ Refused (refusal 9 0))
+pub no_room_call : (add_answer 2 4 (slice4 ++ tail) K4 (50 ∷ 1 ∷ []) ≡ Err (refusal NoRoom 0))
     × (add_slice 2 4 (slice4 ++ tail) K4 (50 ∷ 1 ∷ []) ≡ slice4 ++ tail)
-    × (add_answer 2 4 (slice4 ++ tail) K4 (40 ∷ 1 ∷ []) ≡ Refused (refusal 7 0))
+    × (add_answer 2 4 (slice4 ++ tail) K4 (40 ∷ 1 ∷ []) ≡ Err (refusal KeyShown 0))
 unfolding add_answer args_ok breaks_form form_place layer_of entries_at fit_place key add_row room flat
 no_room_call = (refl, refl, refl)
 
 -- an added row that is struck frees its entry, and leaves zeros
-pub freed_call : (strike_answer 2 2 slice3 K4 2 ≡ Done 1)
+pub freed_call : (strike_answer 2 2 slice3 K4 2 ≡ Ok 1)
     × (strike_slice 2 2 slice3 K4 2 ≡ 2 ∷ 65534 ∷ 30 ∷ 0 ∷ (replicate 12 0 ++ tail))
 unfolding strike_answer args_ok breaks_form form_place layer_of entries_at fit_place key strike_row strike_base origins room flat
 freed_call = (refl, refl)
 
 -- a change of an added row's value, and of a base row's; of column 0 it gives 6, past the rows 5, past the columns 1
-pub change_call : (change_answer 2 1 slice2 K4 2 1 9 ≡ Done 1)
+pub change_call : (change_answer 2 1 slice2 K4 2 1 9 ≡ Ok 1)
     × (change_slice 2 1 slice2 K4 2 1 9 ≡ 2 ∷ 65535 ∷ 25 ∷ 9 ∷ (replicate 12 0 ++ tail))
-    × (change_answer 2 1 slice2 K4 3 1 9 ≡ Done 2)
+    × (change_answer 2 1 slice2 K4 3 1 9 ≡ Ok 2)
     × (change_slice 2 1 slice2 K4 3 1 9 ≡ 2 ∷ 65535 ∷ 25 ∷ 7 ∷ 2 ∷ 1 ∷ 9 ∷ 0 ∷ (replicate 8 0 ++ tail))
-    × (change_answer 2 1 slice2 K4 3 0 9 ≡ Refused (refusal 6 0))
-    × (change_answer 2 1 slice2 K4 5 0 9 ≡ Refused (refusal 5 0))
-    × (change_answer 2 1 slice2 K4 5 2 9 ≡ Refused (refusal 1 0))
+    × (change_answer 2 1 slice2 K4 3 0 9 ≡ Err (refusal KeyColumn 0))
+    × (change_answer 2 1 slice2 K4 5 0 9 ≡ Err (refusal NoSuchRow 0))
+    × (change_answer 2 1 slice2 K4 5 2 9 ≡ Err (refusal BadArguments 0))
 unfolding change_answer args_ok breaks_form form_place layer_of entries_at fit_place key put change_row_no change_base origins room flat
 change_call = (refl, refl, refl, refl, refl, refl, refl)
 
@@ -147,9 +147,9 @@ change_call = (refl, refl, refl, refl, refl, refl, refl)
 abbrev table4 : List ℕ
 table4 = K4 ++ ones
 
-pub renumber_base_call : (renumber_answer 2 4 0 slice0 table4 0 25 ≡ Done 2)
+pub renumber_base_call : (renumber_answer 2 4 0 slice0 table4 0 25 ≡ Ok 2)
     × (renumber_slice 2 4 0 slice0 table4 0 25 ≡ 0 ∷ 65534 ∷ 10 ∷ 0 ∷ 2 ∷ 65535 ∷ 25 ∷ 1 ∷ (replicate 8 0 ++ tail))
-    × (renumber_answer 2 4 1 (3 ∷ 1 ∷ 9 ∷ 0 ∷ slice0) table4 3 15 ≡ Done 2)
+    × (renumber_answer 2 4 1 (3 ∷ 1 ∷ 9 ∷ 0 ∷ slice0) table4 3 15 ≡ Ok 2)
     × (renumber_slice 2 4 1 (3 ∷ 1 ∷ 9 ∷ 0 ∷ slice0) table4 3 15
     ≡ 1 ∷ 65535 ∷ 15 ∷ 9 ∷ 3 ∷ 65534 ∷ 40 ∷ 0 ∷ (replicate 12 0 ++ tail))
 unfolding renumber_over renumber_row columnwise args_ok breaks_form form_place layer_of entries_at fit_place key put add_row strike_row
@@ -158,7 +158,7 @@ renumber_base_call = (refl, refl, refl, refl)
 
 -- three changes of one row give way to a strike and an add: an entry is freed, and leaves zeros
 pub renumber_freed_call : (renumber_answer 4 1 3 (0 ∷ 1 ∷ 5 ∷ 0 ∷ 0 ∷ 0 ∷ 0 ∷ 2 ∷ 6 ∷ 0 ∷ 0 ∷ 0 ∷ 0 ∷ 3 ∷ 7 ∷ 0 ∷ 0 ∷ 0 ∷ tail)
-    (10 ∷ 1 ∷ 2 ∷ 3 ∷ []) 0 5 ≡ Done 2)
+    (10 ∷ 1 ∷ 2 ∷ 3 ∷ []) 0 5 ≡ Ok 2)
     × (renumber_slice 4 1 3 (0 ∷ 1 ∷ 5 ∷ 0 ∷ 0 ∷ 0 ∷ 0 ∷ 2 ∷ 6 ∷ 0 ∷ 0 ∷ 0 ∷ 0 ∷ 3 ∷ 7 ∷ 0 ∷ 0 ∷ 0 ∷ tail)
     (10 ∷ 1 ∷ 2 ∷ 3 ∷ []) 0 5 ≡ 0 ∷ 65535 ∷ 5 ∷ 5 ∷ 6 ∷ 7 ∷ 0 ∷ 65534 ∷ 10 ∷ 0 ∷ 0 ∷ 0 ∷ (replicate 6 0 ++ tail))
 unfolding renumber_over renumber_row columnwise args_ok breaks_form form_place layer_of entries_at fit_place key put add_row strike_row
@@ -166,14 +166,14 @@ unfolding renumber_over renumber_row columnwise args_ok breaks_form form_place l
 renumber_freed_call = (refl, refl)
 
 -- E4 fills its slice: an added row may have another number, also that of a struck row; and a row its own
-pub renumber_full_call : (renumber_answer 2 4 4 (slice4 ++ tail) table4 2 35 ≡ Done 4)
+pub renumber_full_call : (renumber_answer 2 4 4 (slice4 ++ tail) table4 2 35 ≡ Ok 4)
     × (renumber_slice 2 4 4 (slice4 ++ tail) table4 2 35
     ≡ 2 ∷ 65535 ∷ 27 ∷ 9 ∷ 2 ∷ 65534 ∷ 30 ∷ 0 ∷ 3 ∷ 65535 ∷ 33 ∷ 5 ∷ 3 ∷ 65535 ∷ 35 ∷ 7 ∷ tail)
     × (renumber_slice 2 4 4 (slice4 ++ tail) table4 2 30
     ≡ 2 ∷ 65535 ∷ 27 ∷ 9 ∷ 2 ∷ 65535 ∷ 30 ∷ 7 ∷ 2 ∷ 65534 ∷ 30 ∷ 0 ∷ 3 ∷ 65535 ∷ 33 ∷ 5 ∷ tail)
-    × (renumber_answer 2 4 4 (slice4 ++ tail) table4 2 25 ≡ Done 4)
+    × (renumber_answer 2 4 4 (slice4 ++ tail) table4 2 25 ≡ Ok 4)
     × (renumber_slice 2 4 4 (slice4 ++ tail) table4 2 25 ≡ slice4 ++ tail)
-    × (renumber_answer 2 4 4 (slice4 ++ tail) table4 5 40 ≡ Done 4)
+    × (renumber_answer 2 4 4 (slice4 ++ tail) table4 5 40 ≡ Ok 4)
     × (renumber_slice 2 4 4 (slice4 ++ tail) table4 5 40 ≡ slice4 ++ tail)
 unfolding renumber_over renumber_row columnwise args_ok breaks_form form_place layer_of entries_at fit_place key add_row strike_row
     strike_base origins room flat
@@ -181,23 +181,23 @@ renumber_full_call = (refl, refl, refl, refl, refl, refl, refl)
 
 -- a base row has no room there for two more entries, 9; a number that another row shows gives 7, a row that is not shown 5;
 -- a table one number short gives 1, one number over nothing
-pub renumber_refused_call : (renumber_answer 2 4 4 (slice4 ++ tail) table4 5 45 ≡ Refused (refusal 9 0))
+pub renumber_refused_call : (renumber_answer 2 4 4 (slice4 ++ tail) table4 5 45 ≡ Err (refusal NoRoom 0))
     × (renumber_slice 2 4 4 (slice4 ++ tail) table4 5 45 ≡ slice4 ++ tail)
-    × (renumber_answer 2 4 1 (3 ∷ 1 ∷ 9 ∷ 0 ∷ tail) table4 3 45 ≡ Refused (refusal 9 0))
-    × (renumber_answer 2 4 4 (slice4 ++ tail) table4 5 27 ≡ Refused (refusal 7 0))
-    × (renumber_answer 2 4 4 (slice4 ++ tail) table4 6 27 ≡ Refused (refusal 5 0))
-    × (renumber_answer 2 4 0 slice0 (10 ∷ 20 ∷ 30 ∷ 40 ∷ 1 ∷ 2 ∷ 4 ∷ []) 0 25 ≡ Refused (refusal 1 0))
+    × (renumber_answer 2 4 1 (3 ∷ 1 ∷ 9 ∷ 0 ∷ tail) table4 3 45 ≡ Err (refusal NoRoom 0))
+    × (renumber_answer 2 4 4 (slice4 ++ tail) table4 5 27 ≡ Err (refusal KeyShown 0))
+    × (renumber_answer 2 4 4 (slice4 ++ tail) table4 6 27 ≡ Err (refusal NoSuchRow 0))
+    × (renumber_answer 2 4 0 slice0 (10 ∷ 20 ∷ 30 ∷ 40 ∷ 1 ∷ 2 ∷ 4 ∷ []) 0 25 ≡ Err (refusal BadArguments 0))
     × (renumber_slice 2 4 0 slice0 (10 ∷ 20 ∷ 30 ∷ 40 ∷ 1 ∷ 2 ∷ 4 ∷ []) 0 25 ≡ slice0)
-    × (renumber_answer 2 4 0 slice0 (table4 ++ tail) 0 25 ≡ Done 2)
+    × (renumber_answer 2 4 0 slice0 (table4 ++ tail) 0 25 ≡ Ok 2)
 unfolding renumber_over renumber_row columnwise args_ok breaks_form form_place layer_of entries_at fit_place key put add_row strike_row
     strike_base origins room flat
 renumber_refused_call = (refl, refl, refl, refl, refl, refl, refl, refl)
 
 -- E5: shifts of E4 at 0, 2, 3, 4: 0, 2, 2, 2; past n it gives 1
-pub e5_call : (shift_answer 2 4 4 slice4 0 ≡ shifted.By (pos 0)) × (shift_answer 2 4 4 slice4 2 ≡ shifted.By (pos 2))
-    × (shift_answer 2 4 4 slice4 3 ≡ shifted.By (pos 2)) × (shift_answer 2 4 4 slice4 4 ≡ shifted.By (pos 2))
-    × (shift_answer 2 4 4 slice4 5 ≡ shifted.Refused (refusal 1 0))
-    × (row_answer 2 4 4 slice4 3 ≡ Done 5)
+pub e5_call : (shift_answer 2 4 4 slice4 0 ≡ Ok (pos 0)) × (shift_answer 2 4 4 slice4 2 ≡ Ok (pos 2))
+    × (shift_answer 2 4 4 slice4 3 ≡ Ok (pos 2)) × (shift_answer 2 4 4 slice4 4 ≡ Ok (pos 2))
+    × (shift_answer 2 4 4 slice4 5 ≡ Err (refusal BadArguments 0))
+    × (row_answer 2 4 4 slice4 3 ≡ Ok 5)
 unfolding shift_answer row_answer args_ok breaks_form form_place layer_of entries_at key shift row_of
 e5_call = (refl, refl, refl, refl, refl, refl)
 
@@ -206,15 +206,15 @@ abbrev slice6 : List ℕ
 slice6 = 0 ∷ 65534 ∷ 10 ∷ 0 ∷ 1 ∷ 65534 ∷ 20 ∷ 0 ∷ (replicate 8 0 ++ tail)
 
 pub e6_call : (strike_slice 2 1 (strike_slice 2 0 slice0 K4 0) K4 0 ≡ slice6)
-    × (shift_answer 2 4 2 slice6 1 ≡ shifted.By (negsuc 0)) × (shift_answer 2 4 2 slice6 2 ≡ shifted.By (negsuc 1))
-    × (shift_answer 2 4 2 slice6 4 ≡ shifted.By (negsuc 1))
+    × (shift_answer 2 4 2 slice6 1 ≡ Ok (negsuc 0)) × (shift_answer 2 4 2 slice6 2 ≡ Ok (negsuc 1))
+    × (shift_answer 2 4 2 slice6 4 ≡ Ok (negsuc 1))
 unfolding strike_answer shift_answer args_ok breaks_form form_place layer_of entries_at fit_place key strike_row strike_base origins shift room flat
 e6_call = (refl, refl, refl, refl)
 
 -- back from the rows of E4: base rows 0 and 1, added entries 0, 1 and 3, base row 3; there is no row 6
-pub back_call : (back_answer 2 4 4 slice4 1 ≡ backed.Base 1) × (back_answer 2 4 4 slice4 3 ≡ backed.Added 1)
-    × (back_answer 2 4 4 slice4 4 ≡ backed.Added 3) × (back_answer 2 4 4 slice4 5 ≡ backed.Base 3)
-    × (back_answer 2 4 4 slice4 6 ≡ backed.Refused (refusal 5 0))
+pub back_call : (back_answer 2 4 4 slice4 1 ≡ Ok (base 1)) × (back_answer 2 4 4 slice4 3 ≡ Ok (added 1))
+    × (back_answer 2 4 4 slice4 4 ≡ Ok (added 3)) × (back_answer 2 4 4 slice4 5 ≡ Ok (base 3))
+    × (back_answer 2 4 4 slice4 6 ≡ Err (refusal NoSuchRow 0))
 unfolding back_answer args_ok breaks_form form_place layer_of entries_at key origins
 back_call = (refl, refl, refl, refl, refl)
 
@@ -222,12 +222,12 @@ back_call = (refl, refl, refl, refl, refl)
 abbrev nines : List ℕ
 nines = replicate 7 99
 
-pub read_call : (read_answer 2 4 slice4 ones 1 7 ≡ Done 6)
+pub read_call : (read_answer 2 4 slice4 ones 1 7 ≡ Ok 6)
     × (read_slice 2 4 slice4 ones 1 nines ≡ 1 ∷ 2 ∷ 7 ∷ 9 ∷ 5 ∷ 8 ∷ 99 ∷ [])
     × (view_part 2 4 slice4 ones 1 7 ≡ buffer_front 6)
-    × (read_answer 2 4 slice4 ones 1 5 ≡ Refused (refusal 11 0))
+    × (read_answer 2 4 slice4 ones 1 5 ≡ Err (refusal ShortBuffer 0))
     × (view_part 2 4 slice4 ones 1 5 ≡ empty_base)
-    × (read_answer 2 4 slice4 ones 2 7 ≡ Refused (refusal 1 0))
+    × (read_answer 2 4 slice4 ones 2 7 ≡ Err (refusal BadArguments 0))
     × (view_part 2 1 (3 ∷ 1 ∷ 9 ∷ 0 ∷ []) K4 0 4 ≡ whole_base)
     × (view_part 2 1 (3 ∷ 1 ∷ 9 ∷ 0 ∷ []) ones 1 4 ≡ buffer_front 4)
 unfolding read_answer view_part args_ok breaks_form form_place layer_of entries_at key
@@ -243,7 +243,7 @@ slice10 = 2 ∷ 65535 ∷ 26 ∷ 0 ∷ 2 ∷ 65535 ∷ 28 ∷ 0 ∷ 3 ∷ 1 ∷ 
 abbrev struck30 : List ℕ
 struck30 = 2 ∷ 65534 ∷ 30 ∷ 0 ∷ []
 
-pub move_call : (move_answer 2 K4 2 slice7 2 (0 ∷ 65534 ∷ 10 ∷ 0 ∷ 2 ∷ 65535 ∷ 22 ∷ 3 ∷ []) ≡ Done 2)
+pub move_call : (move_answer 2 K4 2 slice7 2 (0 ∷ 65534 ∷ 10 ∷ 0 ∷ 2 ∷ 65535 ∷ 22 ∷ 3 ∷ []) ≡ Ok 2)
     × (move_slice 2 K4 2 slice7 2 (0 ∷ 65534 ∷ 10 ∷ 0 ∷ 2 ∷ 65535 ∷ 22 ∷ 3 ∷ []) ≡ slice7)
     × (move_slice 2 K4 3 slice10 2 (1 ∷ 65534 ∷ 20 ∷ 0 ∷ 2 ∷ 65534 ∷ 30 ∷ 0 ∷ [])
     ≡ 1 ∷ 65535 ∷ 26 ∷ 0 ∷ 1 ∷ 65535 ∷ 28 ∷ 0 ∷ 1 ∷ 1 ∷ 9 ∷ 0 ∷ tail)
@@ -251,43 +251,43 @@ pub move_call : (move_answer 2 K4 2 slice7 2 (0 ∷ 65534 ∷ 10 ∷ 0 ∷ 2 ∷
 unfolding move_answer args_ok breaks_form form_place layer_of entries_at fit_place key conflict conflict_place row_of add_position flat
 move_call = (refl, refl, refl, refl)
 
-pub conflict_call : (move_answer 2 K4 1 struck30 1 (2 ∷ 1 ∷ 5 ∷ 0 ∷ []) ≡ Refused (refusal 8 0))
-    × (move_answer 2 K4 1 (2 ∷ 65535 ∷ 25 ∷ 7 ∷ []) 1 (2 ∷ 65535 ∷ 25 ∷ 7 ∷ []) ≡ Refused (refusal 8 0))
-    × (move_answer 2 K4 2 (2 ∷ 65535 ∷ 26 ∷ 0 ∷ struck30) 1 struck30 ≡ Refused (refusal 8 1))
-    × (move_answer 2 K4 1 (2 ∷ 1 ∷ 5 ∷ 0 ∷ []) 1 (2 ∷ 1 ∷ 6 ∷ 0 ∷ []) ≡ Refused (refusal 8 0))
-    × (move_answer 2 K4 1 struck30 1 (2 ∷ 2 ∷ 5 ∷ 0 ∷ []) ≡ Refused (refusal 2 1000))
-    × (move_answer 2 K4 1 struck30 1 (2 ∷ 65534 ∷ 40 ∷ 0 ∷ []) ≡ Refused (refusal 4 1000))
+pub conflict_call : (move_answer 2 K4 1 struck30 1 (2 ∷ 1 ∷ 5 ∷ 0 ∷ []) ≡ Err (refusal InConflict 0))
+    × (move_answer 2 K4 1 (2 ∷ 65535 ∷ 25 ∷ 7 ∷ []) 1 (2 ∷ 65535 ∷ 25 ∷ 7 ∷ []) ≡ Err (refusal InConflict 0))
+    × (move_answer 2 K4 2 (2 ∷ 65535 ∷ 26 ∷ 0 ∷ struck30) 1 struck30 ≡ Err (refusal InConflict 1))
+    × (move_answer 2 K4 1 (2 ∷ 1 ∷ 5 ∷ 0 ∷ []) 1 (2 ∷ 1 ∷ 6 ∷ 0 ∷ []) ≡ Err (refusal InConflict 0))
+    × (move_answer 2 K4 1 struck30 1 (2 ∷ 2 ∷ 5 ∷ 0 ∷ []) ≡ Err (refusal BadForm 1000))
+    × (move_answer 2 K4 1 struck30 1 (2 ∷ 65534 ∷ 40 ∷ 0 ∷ []) ≡ Err (refusal BadFit 1000))
     × (move_slice 2 K4 1 struck30 1 (2 ∷ 65534 ∷ 40 ∷ 0 ∷ []) ≡ struck30)
 unfolding move_answer args_ok breaks_form form_place layer_of entries_at fit_place key conflict conflict_place row_of add_position flat
 conflict_call = (refl, refl, refl, refl, refl, refl, refl)
 
 -- one cell set to one value by both: each passes and stays, and combined they are one entry
-pub same_value_call : (move_answer 2 K4 1 (2 ∷ 1 ∷ 5 ∷ 0 ∷ []) 1 (2 ∷ 1 ∷ 5 ∷ 0 ∷ []) ≡ Done 1)
+pub same_value_call : (move_answer 2 K4 1 (2 ∷ 1 ∷ 5 ∷ 0 ∷ []) 1 (2 ∷ 1 ∷ 5 ∷ 0 ∷ []) ≡ Ok 1)
     × (move_slice 2 K4 1 (2 ∷ 1 ∷ 5 ∷ 0 ∷ []) 1 (2 ∷ 1 ∷ 5 ∷ 0 ∷ []) ≡ 2 ∷ 1 ∷ 5 ∷ 0 ∷ [])
-    × (combine_answer 2 K4 1 (2 ∷ 1 ∷ 5 ∷ 0 ∷ []) 1 (2 ∷ 1 ∷ 5 ∷ 0 ∷ []) 4 ≡ Done 1)
+    × (combine_answer 2 K4 1 (2 ∷ 1 ∷ 5 ∷ 0 ∷ []) 1 (2 ∷ 1 ∷ 5 ∷ 0 ∷ []) 4 ≡ Ok 1)
     × (combine_slice 2 K4 1 (2 ∷ 1 ∷ 5 ∷ 0 ∷ []) 1 (2 ∷ 1 ∷ 5 ∷ 0 ∷ []) (replicate 6 99) ≡ 2 ∷ 1 ∷ 5 ∷ 0 ∷ 99 ∷ 99 ∷ [])
 unfolding move_answer combine_answer args_ok breaks_form form_place layer_of entries_at fit_place key conflict conflict_place row_of add_position flat put
     combine change_row_no change_base origins room
 same_value_call = (refl, refl, refl, refl)
 
 -- E12 as a combination into ten numbers; into seven it gives 9
-pub e12_call : (combine_answer 2 K4 1 struck30 1 (2 ∷ 65535 ∷ 35 ∷ 0 ∷ []) 10 ≡ Done 2)
+pub e12_call : (combine_answer 2 K4 1 struck30 1 (2 ∷ 65535 ∷ 35 ∷ 0 ∷ []) 10 ≡ Ok 2)
     × (combine_slice 2 K4 1 struck30 1 (2 ∷ 65535 ∷ 35 ∷ 0 ∷ []) (replicate 10 99)
     ≡ 2 ∷ 65534 ∷ 30 ∷ 0 ∷ 3 ∷ 65535 ∷ 35 ∷ 0 ∷ 99 ∷ 99 ∷ [])
     × (combine_slice 2 K4 1 struck30 1 (2 ∷ 65535 ∷ 27 ∷ 0 ∷ []) (replicate 8 99)
     ≡ 2 ∷ 65535 ∷ 27 ∷ 0 ∷ 2 ∷ 65534 ∷ 30 ∷ 0 ∷ [])
-    × (combine_answer 2 K4 1 struck30 1 (2 ∷ 65535 ∷ 35 ∷ 0 ∷ []) 7 ≡ Refused (refusal 9 0))
+    × (combine_answer 2 K4 1 struck30 1 (2 ∷ 65535 ∷ 35 ∷ 0 ∷ []) 7 ≡ Err (refusal NoRoom 0))
     × (combine_slice 2 K4 1 struck30 1 (2 ∷ 65535 ∷ 35 ∷ 0 ∷ []) nines ≡ nines)
 unfolding combine_answer args_ok breaks_form form_place layer_of entries_at fit_place key combine add_row strike_row strike_base change_row_no change_base origins room flat
 e12_call = (refl, refl, refl, refl, refl)
 
 -- the checks alone: rows after E4, 0 where it fits; a falling position, a row total, falling keys, a wrong key
-pub check_call : (form_answer 2 4 4 slice4 ≡ Done 6) × (ready_answer 2 4 slice4 K4 ≡ Done 6)
-    × (fit_answer 2 4 slice4 K4 ≡ Done 0)
-    × (form_answer 2 4 4 (2 ∷ 65535 ∷ 25 ∷ 7 ∷ 1 ∷ 65535 ∷ 15 ∷ 7 ∷ slice4) ≡ Refused (refusal 2 1))
-    × (form_answer 2 4096 1 (2 ∷ 65535 ∷ 25 ∷ 7 ∷ []) ≡ Refused (refusal 2 1))
-    × (fit_answer 2 4 slice4 (10 ∷ 20 ∷ 30 ∷ 30 ∷ []) ≡ Refused (refusal 3 0))
-    × (fit_answer 2 4 slice4 (10 ∷ 20 ∷ 31 ∷ 40 ∷ []) ≡ Refused (refusal 4 2))
+pub check_call : (form_answer 2 4 4 slice4 ≡ Ok 6) × (ready_answer 2 4 slice4 K4 ≡ Ok 6)
+    × (fit_answer 2 4 slice4 K4 ≡ Ok 0)
+    × (form_answer 2 4 4 (2 ∷ 65535 ∷ 25 ∷ 7 ∷ 1 ∷ 65535 ∷ 15 ∷ 7 ∷ slice4) ≡ Err (refusal BadForm 1))
+    × (form_answer 2 4096 1 (2 ∷ 65535 ∷ 25 ∷ 7 ∷ []) ≡ Err (refusal BadForm 1))
+    × (fit_answer 2 4 slice4 (10 ∷ 20 ∷ 30 ∷ 30 ∷ []) ≡ Err (refusal KeysUnordered 0))
+    × (fit_answer 2 4 slice4 (10 ∷ 20 ∷ 31 ∷ 40 ∷ []) ≡ Err (refusal BadFit 2))
 unfolding form_answer ready_answer fit_answer args_ok breaks_form form_place layer_of entries_at fit_place key
 check_call = (refl, refl, refl, refl, refl, refl, refl)
 
@@ -308,9 +308,9 @@ bad_kind = 2 ∷ 2 ∷ 5 ∷ 0 ∷ []
 abbrev bad_key : List ℕ
 bad_key = 2 ∷ 65534 ∷ 40 ∷ 0 ∷ []
 
-pub order_call : (fit_answer 2 1 bad_kind (10 ∷ 10 ∷ 10 ∷ []) ≡ Refused (refusal 2 0))
-    × (strike_answer 2 1 bad_key K4 9 ≡ Refused (refusal 4 0))
-    × (move_answer 2 K4 1 bad_kind 1 bad_kind ≡ Refused (refusal 2 0))
-    × (move_answer 2 K4 1 bad_key 1 bad_key ≡ Refused (refusal 4 0))
+pub order_call : (fit_answer 2 1 bad_kind (10 ∷ 10 ∷ 10 ∷ []) ≡ Err (refusal BadForm 0))
+    × (strike_answer 2 1 bad_key K4 9 ≡ Err (refusal BadFit 0))
+    × (move_answer 2 K4 1 bad_kind 1 bad_kind ≡ Err (refusal BadForm 0))
+    × (move_answer 2 K4 1 bad_key 1 bad_key ≡ Err (refusal BadFit 0))
 unfolding fit_answer strike_answer move_answer args_ok breaks_form form_place layer_of entries_at fit_place key
 order_call = (refl, refl, refl, refl)

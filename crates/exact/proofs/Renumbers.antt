@@ -12,21 +12,24 @@ use lib.ListN.{length, get_or, take}
 use lib.Seq.{length-take-le}
 use lib.Dec.{leb, eqb}
 use borrow.Author.Tests.{le-leb, eqb-true, eq-eqb, ne_eqb}
+use Rattle.words.specs.declared.Origin.{Origin}
+use Rattle.words.specs.declared.Origin.TheVariants.{Base as base, Added as added}
+use Rattle.words.specs.declared.Cause.{Cause}
+use Rattle.words.specs.declared.Cause.TheVariants.{BadArguments, BadForm, NoSuchRow, KeyShown, NoRoom}
+use Rattle.std.specs.Prelude.{Ok, Err}
 use Rattle.order.specs.Lists.{one, count, any, filter, without}
 use Rattle.order.proofs.Tests.{or_l, or_r}
 use Rattle.order.proofs.Members.{any_mem, mem_map, map_mem}
 use Rattle.order.proofs.Counts.{length_insert, filter_count}
 use Rattle.order.proofs.Edited.{without_map}
 use Rattle.order.proofs.Ascending.{get_or_at, at_mem, asc_same}
-use Rattle.words.specs.declared.Answer.{Answer}
-use Rattle.words.specs.declared.Answer.TheVariants.{Done, Refused}
-use Rattle.words.specs.Answer.{refusal}
+use Rattle.words.specs.Answer.{cause_number, refusal, Answer}
 use Rattle.model.specs.Row.{Row, Table, key, keys, with_key, columnwise}
 use Rattle.model.specs.Layer.{strike, at, Layer, rows_after, changes_row}
 use Rattle.model.specs.Raw.{entries_of, layer_of}
 use Rattle.model.specs.Form.{form_place, in_order}
 use Rattle.model.specs.Read.{read, keys_after}
-use Rattle.model.specs.Position.{Origin, base, added, back}
+use Rattle.model.specs.Position.{back}
 use Rattle.model.specs.Edits.{before, add_row, strike_base, strike_origin, strike_row, renumber_row}
 use Rattle.model.specs.Steps.{renumbering, Allowed}
 use Rattle.model.specs.Refusals.{shown_key}
@@ -107,29 +110,31 @@ module _ (T : Table) (L : Layer) (r g : ℕ) where
 -- What a call answers, over the keys K and the layer of raw, where 1 to 5 pass; M is the layer that it leaves.
 pub record Renumbers (c m : ℕ) (raw K : List ℕ) (r g : ℕ) (answer : Answer) (M : Layer) : Type 0 where
   -- 7 exactly where g is shown in another row
-  pub seven : (answer ≡ Refused (refusal 7 0)) ↔ Elsewhere g r (keys_after K (layer_of c m raw))
+  pub seven : (answer ≡ Err (refusal KeyShown 0)) ↔ Elsewhere g r (keys_after K (layer_of c m raw))
   -- else 9 exactly where the entries of M pass the room; done where there is room for two more
   pub nine : (Elsewhere g r (keys_after K (layer_of c m raw)) → ⊥)
-      → (answer ≡ Refused (refusal 9 0)) ↔ (Roomy c (length raw) (length M) → ⊥)
+      → (answer ≡ Err (refusal NoRoom 0)) ↔ (Roomy c (length raw) (length M) → ⊥)
   pub rightful : (Elsewhere g r (keys_after K (layer_of c m raw)) → ⊥) → Roomy c (length raw) (suc (suc m))
-      → answer ≡ Done (length M)
+      → answer ≡ Ok (length M)
   -- an added row needs no room, a base row that gets another number two entries less its changes
   pub added_row_lem : (Elsewhere g r (keys_after K (layer_of c m raw)) → ⊥)
-      → (i : ℕ) → back (length K) (layer_of c m raw) r ≡ added i → answer ≡ Done m
+      → (i : ℕ) → back (length K) (layer_of c m raw) r ≡ added i → answer ≡ Ok m
   pub base_row : (s : ℕ) → back (length K) (layer_of c m raw) r ≡ base s
       → (get_or (keys_after K (layer_of c m raw)) r 0 ≡ g → ⊥)
       → length M + count (changes_row s) (layer_of c m raw) ≡ suc (suc m)
   -- its own number is done, and leaves the layer as it is
-  pub own : get_or (keys_after K (layer_of c m raw)) r 0 ≡ g → (answer ≡ Done m) × (M ≡ layer_of c m raw)
+  pub own : get_or (keys_after K (layer_of c m raw)) r 0 ≡ g → (answer ≡ Ok m) × (M ≡ layer_of c m raw)
 
 -- a refusal's number is one of the lines'
-refused_listed : (ls : List Line) (k p : ℕ) → RefusedBy k p ls → any (eqb k) (numbers ls) ≡ true
+refused_listed : (ls : List Line) (k : Cause) (p : ℕ) → RefusedBy k p ls → any (eqb (cause_number k)) (numbers ls) ≡ true
 refused_listed [] k p w = absurd w
-refused_listed (line l q W ∷ ls) k p (inl w) = or_l (eqb k l) _ (eq-eqb k l w.1)
-refused_listed (line l q W ∷ ls) k p (inr w) = or_r (eqb k l) _ (refused_listed ls k p w.1)
+refused_listed (line l q W ∷ ls) k p (inl w) =
+    or_l (eqb (cause_number k) (cause_number l)) _ (eq-eqb (cause_number k) (cause_number l) (ap cause_number w.1))
+refused_listed (line l q W ∷ ls) k p (inr w) =
+    or_r (eqb (cause_number k) (cause_number l)) _ (refused_listed ls k p w.1)
 
 -- A renumbering that is done had a layer that passes 1 to 4, and a table that was lent whole.
-pub renumber_over_sound : (ok : Bool) (c m : ℕ) (raw : List ℕ) (T : Table) (r g k : ℕ) → renumber_over ok c m raw T r g ≡ Done k
+pub renumber_over_sound : (ok : Bool) (c m : ℕ) (raw : List ℕ) (T : Table) (r g k : ℕ) → renumber_over ok c m raw T r g ≡ Ok k
     → Sound c m raw (keys T) × (ok ≡ true)
 renumber_over_sound ok c m raw T r g k e =
     let w = (counts (renumber_over_table ok (ok ≡ true) (λ x. x, λ x. x) c m raw T r g) k e).1 in
@@ -195,26 +200,26 @@ module _ (ok : Bool) (c m : ℕ) (raw : List ℕ) (T : Table) (r g : ℕ) (S : S
   abbrev None : Type 0
   None = Elsewhere g r (keys_after K L) → ⊥
 
-  table : Exactly Refused answer (Done (length M)) (renumber_lines c (length K) m raw K r g (ok ≡ true) M)
+  table : Exactly Err answer (Ok (length M)) (renumber_lines c (length K) m raw K r g (ok ≡ true) M)
   table = renumber_over_table ok (ok ≡ true) (λ x. x, λ x. x) c m raw T r g
 
-  done_within : None → Roomy c (length raw) (length M) → answer ≡ Done (length M)
+  done_within : None → Roomy c (length raw) (length M) → answer ≡ Ok (length M)
   done_within f w = table.done.1 ((S.args, lent), (S.form, (S.ascends, (S.fit, (h, (f, (w, tt)))))))
 
   -- the lines that are left
   abbrev last : List Line
-  last = line 7 0 None ∷ line 9 0 (Roomy c (length raw) (length M)) ∷ []
+  last = line KeyShown 0 None ∷ line NoRoom 0 (Roomy c (length raw) (length M)) ∷ []
 
-  refused_last : (k p : ℕ) → (answer ≡ Refused (refusal k p)) ↔ RefusedBy k p last
+  refused_last : (k : Cause) (p : ℕ) → (answer ≡ Err (refusal k p)) ↔ RefusedBy k p last
   refused_last k p =
       let t = table.refuses k p in
       let a = refused_past (form_lines (ArgsPass c (length K) m (length raw) × (ok ≡ true)) c (length K) m raw)
       (fit_lines K L ++ renumber_own c (length K) m raw K r g M) k p ((S.args, lent), (S.form, tt)) in
       let b = refused_past (fit_lines K L) (renumber_own c (length K) m raw K r g M) k p (S.ascends, (S.fit, tt)) in
-      let d = refused_past (line 5 0 (r < rows_after (length K) L) ∷ []) last k p (h, tt) in
+      let d = refused_past (line NoSuchRow 0 (r < rows_after (length K) L) ∷ []) last k p (h, tt) in
       (λ x. d.0 (b.0 (a.0 (t.0 x))), λ x. t.1 (a.1 (b.1 (d.1 x))))
 
-  shown_elsewhere : RefusedBy 7 0 last → Elsewhere g r (keys_after K L)
+  shown_elsewhere : RefusedBy KeyShown 0 last → Elsewhere g r (keys_after K L)
   shown_elsewhere (inl w) = go (shown_key g (without r (keys_after K L))) refl
     where
       go : (t : Bool) → shown_key g (without r (keys_after K L)) ≡ t → Elsewhere g r (keys_after K L)
@@ -222,10 +227,10 @@ module _ (ok : Bool) (c m : ℕ) (raw : List ℕ) (T : Table) (r g : ℕ) (S : S
           let v = any_mem (eqb g) (without r (keys_after K L)) e in
           elsewhere_of r (keys_after K L) g (rw (eqb-true g v.0 v.2) v.1)
       go false e = absurd (w.0 ((not_elsewhere g r (keys_after K L)).0 e))
-  shown_elsewhere (inr w) = absurd (⊎_elim (λ v. omega (arith, v.1)) (λ v. v.1) w.1)
+  shown_elsewhere (inr w) = absurd (⊎_elim (λ v. omega (arith, ap cause_number v.1)) (λ v. v.1) w.1)
 
-  not_roomy : RefusedBy 9 0 last → Roomy c (length raw) (length M) → ⊥
-  not_roomy (inl w) = absurd (omega (arith, w.1))
+  not_roomy : RefusedBy NoRoom 0 last → Roomy c (length raw) (length M) → ⊥
+  not_roomy (inl w) = absurd (omega (arith, ap cause_number w.1))
   not_roomy (inr w) = ⊎_elim (λ v. v.0) (λ v. absurd v.1) w.1
 
   -- as many entries as there are, or fewer, are within the room
@@ -252,23 +257,23 @@ module _ (ok : Bool) (c m : ℕ) (raw : List ℕ) (T : Table) (r g : ℕ) (S : S
 
   pub renumber_over_lem : Renumbers c m raw (keys T) r g (renumber_over ok c m raw T r g) (renumber_row T r g (layer_of c m raw))
   renumber_over_lem = record {
-    seven = (λ e. shown_elsewhere ((refused_last 7 0).0 e), λ x. (refused_last 7 0).1 (inl (λ f. f x, refl, refl)));
+    seven = (λ e. shown_elsewhere ((refused_last KeyShown 0).0 e), λ x. (refused_last KeyShown 0).1 (inl (λ f. f x, refl, refl)));
     nine = λ f. (
-      λ e. not_roomy ((refused_last 9 0).0 e),
-      λ x. (refused_last 9 0).1 (inr (f, inl (x, refl, refl))),
+      λ e. not_roomy ((refused_last NoRoom 0).0 e),
+      λ x. (refused_last NoRoom 0).1 (inr (f, inl (x, refl, refl))),
     );
     rightful = λ f w.
         done_within f (roomy_less c (length raw) (length M) (suc (suc m))
         (omega (arith, entries_most T L r g, layer_length c m raw)) w);
     added_row_lem = λ f i e.
         let n : length M ≡ m = entries_added T L r g i e (back_added c (length K) L order r i e).1 ∙ layer_length c m raw in
-        done_within f (own_room (length M) n) ∙ ap Done n;
+        done_within f (own_room (length M) n) ∙ ap Ok n;
     base_row = λ s e other.
         entries_base T L r g s e (λ x. other (shown_key_lem r ∙ x)) ∙ ap (λ (k : ℕ). suc (suc k)) (layer_length c m raw);
     own = λ e.
         let same : M ≡ L = own_number T L r g (sym (shown_key_lem r) ∙ e) in
         let n : length M ≡ m = ap length same ∙ layer_length c m raw in
-        (done_within (own_alone e) (own_room (length M) n) ∙ ap Done n, same);
+        (done_within (own_alone e) (own_room (length M) n) ∙ ap Ok n, same);
   }
     where
       order : in_order c (length K) L ≡ true
@@ -280,21 +285,21 @@ module _ (c n m : ℕ) (raw table : List ℕ) (r g : ℕ) where
   lent_rows s w = omega (arith, mul-le-mul_right {m = 1} n s)
 
   -- 1 exactly where an argument passes its limit, or the slice has fewer than c·n numbers
-  pub renumber_one : (renumber_answer c n m raw table r g ≡ Refused (refusal 1 0))
+  pub renumber_one : (renumber_answer c n m raw table r g ≡ Err (refusal BadArguments 0))
       ↔ (ArgsPass c n m (length raw) × (c * n ≤ length table) → ⊥)
   renumber_one =
-      let t = (renumber_table c n m raw table r g).refuses 1 0 in (
-        λ e. ⊎_elim (λ w. w.0) (λ w. absurd (true≢false (sym (refused_listed later 1 0 w.1)))) (t.0 e),
+      let t = (renumber_table c n m raw table r g).refuses BadArguments 0 in (
+        λ e. ⊎_elim (λ w. w.0) (λ w. absurd (true≢false (sym (refused_listed later BadArguments 0 w.1)))) (t.0 e),
         λ f. t.1 (inl (f, refl, refl)),
       )
     where
       later : List Line
       later =
-          line 2 (form_place c n (entries_of c m raw)) (FormKept c n m raw)
+          line BadForm (form_place c n (entries_of c m raw)) (FormKept c n m raw)
           ∷ (fit_lines (take n table) (layer_of c m raw)
           ++ renumber_own c n m raw (take n table) r g (renumbered_layer c n m raw table r g))
 
-  pub renumber_sound : (k : ℕ) → renumber_answer c n m raw table r g ≡ Done k
+  pub renumber_sound : (k : ℕ) → renumber_answer c n m raw table r g ≡ Ok k
       → Sound c m raw (take n table) × (c * n ≤ length table)
   renumber_sound k e =
       let w = (counts (renumber_table c n m raw table r g) k e).1 in

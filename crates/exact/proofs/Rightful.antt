@@ -9,11 +9,15 @@ use mathlib.Core.Logic.{◌⊎◌, inl, inr, ⊎_elim, ◌↔◌}
 use mathlib.Core.Bool.{Bool, true, false, not, cond, true≢false}
 use mathlib.Core.List.{List, [], ◌∷◌, ◌++◌, Memᴰ as Mem}
 use lib.ListN.{length, get_or}
+use Rattle.words.specs.declared.Origin.{Origin}
+use Rattle.words.specs.declared.Origin.TheVariants.{Base as base, Added as added}
+use Rattle.words.specs.declared.Cause.{Cause}
+use Rattle.words.specs.declared.Cause.TheVariants.{NoRoom}
+use Rattle.std.specs.Prelude.{Ok, Err}
 use Rattle.order.specs.Lists.{filter, insert, without}
 use Rattle.order.proofs.Members.{mem_map, map_mem}
 use Rattle.order.proofs.Counts.{count_le, length_insert}
 use Rattle.order.proofs.Ascending.{AscFrom, At, below, asc_of, at_length, get_or_at}
-use Rattle.words.specs.declared.Answer.TheVariants.{Done, Refused}
 use Rattle.model.specs.Row.{Row, Table, key, keys}
 use Rattle.model.specs.Cell.{CellEdit, to}
 use Rattle.model.specs.Layer.{
@@ -33,7 +37,7 @@ use Rattle.model.specs.Raw.{layer_of}
 use Rattle.model.specs.Form.{in_order}
 use Rattle.model.specs.Fit.{fits}
 use Rattle.model.specs.Read.{read, keys_after}
-use Rattle.model.specs.Position.{Origin, base, added, back}
+use Rattle.model.specs.Position.{back}
 use Rattle.model.specs.Edits.{
   before,
   strike_base,
@@ -45,7 +49,7 @@ use Rattle.model.specs.Edits.{
   change_origin,
   change_row_no,
 }
-use Rattle.words.specs.Answer.{refusal}
+use Rattle.words.specs.Answer.{cause_number, refusal}
 use Rattle.model.specs.Calls.{add_answer, strike_answer, change_answer, combined_layer, combine_answer, move_answer}
 use Rattle.theory.proofs.Raw.{layer_length}
 use Rattle.theory.proofs.Layer.{KeyKept, changed_key}
@@ -86,22 +90,22 @@ module _ (c m : ℕ) (raw K : List ℕ) (k : ℕ) where
       → Fitting K (layer_of c m raw) (length (layer_of c m raw)) → Sound c m raw K
   sound_of a f s t = record { args = a; form = f; ascends = s; fit = t }
 
-  pub add_sound : (row : Row) → add_answer c m raw K row ≡ Done k → Sound c m raw K
+  pub add_sound : (row : Row) → add_answer c m raw K row ≡ Ok k → Sound c m raw K
   add_sound row e =
       let w = (counts (add_table c m raw K row) k e).1 in
       sound_of w.0.0 w.1.0 w.1.1.0 w.1.1.1.0
 
-  pub strike_sound : (r : ℕ) → strike_answer c m raw K r ≡ Done k → Sound c m raw K
+  pub strike_sound : (r : ℕ) → strike_answer c m raw K r ≡ Ok k → Sound c m raw K
   strike_sound r e =
       let w = (counts (strike_table c m raw K r) k e).1 in
       sound_of w.0 w.1.0 w.1.1.0 w.1.1.1.0
 
-  pub change_sound : (r j v : ℕ) → change_answer c m raw K r j v ≡ Done k → Sound c m raw K
+  pub change_sound : (r j v : ℕ) → change_answer c m raw K r j v ≡ Ok k → Sound c m raw K
   change_sound r j v e =
       let w = (counts (change_table c m raw K r j v) k e).1 in
       sound_of w.0.0 w.1.0 w.1.1.0 w.1.1.1.0
 
-  pub combine_sound : (mW : ℕ) (rawW : List ℕ) (len : ℕ) → combine_answer c K m raw mW rawW len ≡ Done k
+  pub combine_sound : (mW : ℕ) (rawW : List ℕ) (len : ℕ) → combine_answer c K m raw mW rawW len ≡ Ok k
       → Sound c m raw K × ArgsPass c (length K) mW (length rawW)
       × FormKept c (rows_after (length K) (layer_of c m raw)) mW rawW
       × Fitting (keys_after K (layer_of c m raw)) (layer_of c mW rawW) (length (layer_of c mW rawW))
@@ -109,7 +113,7 @@ module _ (c m : ℕ) (raw K : List ℕ) (k : ℕ) where
       let w = (counts (combine_table c K m raw mW rawW len) k e).1 in
       (sound_of w.0.0 w.1.0 w.1.1.1.0 w.1.1.1.1.0, w.0.1, w.1.1.0, w.1.1.1.1.1.0)
 
-pub move_sound : (c m : ℕ) (raw K : List ℕ) (k mY : ℕ) (rawY : List ℕ) → move_answer c K m raw mY rawY ≡ Done k
+pub move_sound : (c m : ℕ) (raw K : List ℕ) (k mY : ℕ) (rawY : List ℕ) → move_answer c K m raw mY rawY ≡ Ok k
     → Sound c m raw K × Sound c mY rawY K
 move_sound c m raw K k mY rawY e =
     let w = (counts (move_table c K m raw mY rawY) k e).1 in (
@@ -234,57 +238,57 @@ module _ (c m : ℕ) (raw K : List ℕ) where
 
     pub add_rightful : (row : Row) → length row ≡ c → (Mem (key row) (keys_after K (layer_of c m raw)) → ⊥)
         → Roomy c (length raw) (suc m) → rows_after (length K) (layer_of c m raw) < 4096
-        → add_answer c m raw K row ≡ Done (suc m)
+        → add_answer c m raw K row ≡ Ok (suc m)
     add_rightful row w f r l =
         (add_table c m raw K row).done.1 ((S.args, w), (S.form, (S.ascends, (S.fit, (f, (r, (l, tt)))))))
-        ∙ ap Done (add_length K row N ∙ ap suc (layer_length c m raw))
+        ∙ ap Ok (add_length K row N ∙ ap suc (layer_length c m raw))
 
     module _ (r : ℕ) (h : r < rows_after (length K) (layer_of c m raw)) where
       strikes : Roomy c (length raw) (length (strike_row K r N))
-          → strike_answer c m raw K r ≡ Done (length (strike_row K r N))
+          → strike_answer c m raw K r ≡ Ok (length (strike_row K r N))
       strikes w = (strike_table c m raw K r).done.1 (S.args, (S.form, (S.ascends, (S.fit, (h, (w, tt))))))
 
       pub strike_rightful : Roomy c (length raw) (suc m)
-          → strike_answer c m raw K r ≡ Done (length (strike_row K r (layer_of c m raw)))
+          → strike_answer c m raw K r ≡ Ok (length (strike_row K r (layer_of c m raw)))
       unfolding strike_row
       strike_rightful w = strikes (one_more _ (struck_le K N (back (length K) N r)) w)
 
       -- an added row needs no room: its entry goes
       pub strike_added : (i : ℕ) → back (length K) (layer_of c m raw) r ≡ added i → i < m
-          → strike_answer c m raw K r ≡ Done (m - 1)
+          → strike_answer c m raw K r ≡ Ok (m - 1)
       unfolding strike_row
       strike_added i e l =
           let n : length (strike_origin K N (back (length K) N r)) ≡ length N - 1 =
           ap (λ (o : Origin). length (strike_origin K N o)) e ∙ without_one i N (omega (arith, layer_length c m raw)) in
           let k : length (strike_origin K N (back (length K) N r)) ≡ m - 1 = omega (arith, layer_length c m raw) in
-          strikes (own_room _ (omega arith)) ∙ ap Done k
+          strikes (own_room _ (omega arith)) ∙ ap Ok k
 
       module _ (j v : ℕ) (past : 1 ≤ j) (within : j < c) where
         changes : Roomy c (length raw) (length (change_row_no K r j (to v) N))
-            → change_answer c m raw K r j v ≡ Done (length (change_row_no K r j (to v) N))
+            → change_answer c m raw K r j v ≡ Ok (length (change_row_no K r j (to v) N))
         changes w =
             (change_table c m raw K r j v).done.1
             ((S.args, within), (S.form, (S.ascends, (S.fit, (h, (past, (w, tt)))))))
 
         pub change_rightful : Roomy c (length raw) (suc m)
-            → change_answer c m raw K r j v ≡ Done (length (change_row_no K r j (to v) (layer_of c m raw)))
+            → change_answer c m raw K r j v ≡ Ok (length (change_row_no K r j (to v) (layer_of c m raw)))
         unfolding change_row_no
         change_rightful w = changes (one_more _ (changed_le j (to v) N (back (length K) N r)) w)
 
         -- an added row needs no room: its value is replaced
-        pub change_added_lem : (i : ℕ) → back (length K) (layer_of c m raw) r ≡ added i → change_answer c m raw K r j v ≡ Done m
+        pub change_added_lem : (i : ℕ) → back (length K) (layer_of c m raw) r ≡ added i → change_answer c m raw K r j v ≡ Ok m
         unfolding change_row_no
         change_added_lem i e =
             let n : length (change_origin j (to v) N (back (length K) N r)) ≡ m =
             ap (λ (o : Origin). length (change_origin j (to v) N o)) e
             ∙ (change_added_length i j (to v) N ∙ layer_length c m raw) in
-            changes (own_room _ (omega arith)) ∙ ap Done n
+            changes (own_room _ (omega arith)) ∙ ap Ok n
 
 -- Combine, where 1 to 4 pass: 9 exactly where the combined layer passes the room.
 module _ (c : ℕ) (K : List ℕ) (mR : ℕ) (rawR : List ℕ) (mW : ℕ) (rawW : List ℕ) (S : Sound c mR rawR K)
     (args : ArgsPass c (length K) mW (length rawW)) (form : FormKept c (rows_after (length K) (layer_of c mR rawR)) mW rawW)
     (fit : Fitting (keys_after K (layer_of c mR rawR)) (layer_of c mW rawW) (length (layer_of c mW rawW))) (len : ℕ) where
-  own : (k p : ℕ)
+  own : (k : Cause) (p : ℕ)
       → RefusedBy k p (combine_lines c K mR rawR mW rawW len) ↔ RefusedBy k p (combine_own c K mR rawR mW rawW len)
   own k p =
       let R = layer_of c mR rawR in
@@ -296,13 +300,13 @@ module _ (c : ℕ) (K : List ℕ) (mR : ℕ) (rawR : List ℕ) (mW : ℕ) (rawW 
       (S.ascends, (S.fit, (fit, tt))) in
       (λ x. b.0 (a.0 x), λ x. a.1 (b.1 x))
 
-  pub combine_nine : (combine_answer c K mR rawR mW rawW len ≡ Refused (refusal 9 0))
+  pub combine_nine : (combine_answer c K mR rawR mW rawW len ≡ Err (refusal NoRoom 0))
       ↔ (Roomy c len (length (combined_layer c K mR rawR mW rawW)) → ⊥)
   combine_nine =
-      let t = (combine_table c K mR rawR mW rawW len).refuses 9 0 in
-      (λ e. not_roomy ((own 9 0).0 (t.0 e)), λ f. t.1 ((own 9 0).1 (inl (f, refl, refl))))
+      let t = (combine_table c K mR rawR mW rawW len).refuses NoRoom 0 in
+      (λ e. not_roomy ((own NoRoom 0).0 (t.0 e)), λ f. t.1 ((own NoRoom 0).1 (inl (f, refl, refl))))
     where
-      not_roomy : RefusedBy 9 0 (combine_own c K mR rawR mW rawW len)
+      not_roomy : RefusedBy NoRoom 0 (combine_own c K mR rawR mW rawW len)
           → Roomy c len (length (combined_layer c K mR rawR mW rawW)) → ⊥
       not_roomy (inl x) = x.0
-      not_roomy (inr x) = λ r. ⊎_elim (λ y. omega (arith, y.1)) (λ y. y.1) x.1
+      not_roomy (inr x) = λ r. ⊎_elim (λ y. omega (arith, ap cause_number y.1)) (λ y. y.1) x.1

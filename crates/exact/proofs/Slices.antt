@@ -25,10 +25,10 @@ use lib.ListN.{
 use lib.Seq.{take-append_seam, get_or-append-add, get_or-drop}
 use lib.Dec.{leb}
 use borrow.Author.Tests.{leb-true, leb-false}
+use Rattle.std.specs.Prelude.{Ok, Err}
 use Rattle.order.specs.Lists.{gather}
 use Rattle.order.proofs.Members.{mem_map, map_mem}
 use Rattle.words.specs.declared.Refusal.{Refusal}
-use Rattle.words.specs.declared.Answer.TheVariants.{Done, Refused}
 use Rattle.model.specs.Row.{Row, Table, key, keys, columnwise}
 use Rattle.model.specs.Cell.{to}
 use Rattle.model.specs.Layer.{add, strike, change, Edit, at, Layer, rows_after}
@@ -177,7 +177,7 @@ module _ (c n m : ℕ) (M : Layer) (old : List ℕ) (some : 1 ≤ c) (few : c �
       let le : m * (c + 2) ≤ length M * (c + 2) = mul-le-mul_right {m = m} (c + 2) (omega arith) in
       rw x (d, room, λ i a b. a, λ i a b. absurd (omega arith))
 
-  edited_of : (k : ℕ) → Edited c m M old (edited c m (Done k) M old)
+  edited_of : (k : ℕ) → Edited c m M old (edited c m (Ok k) M old)
   edited_of k =
       let d = ends (leb (length M) m) refl in
       record {
@@ -212,7 +212,7 @@ module _ (c m : ℕ) (raw : List ℕ) (T : Table) where
 
   module _ (S : Sound c m raw (keys T)) where
     step_slice_lem : (x : Step) → Allowed c x (read T L) → Roomy c (length raw) (length (step_on T x L)) → (k : ℕ)
-        → Edited c m (step_on T x L) raw (edited c m (Done k) (step_on T x L) raw)
+        → Edited c m (step_on T x L) raw (edited c m (Ok k) (step_on T x L) raw)
     step_slice_lem x w r k =
         edited_of c (length T) m (step_on T x L) raw S.args.some S.args.columns
         (step_reads c T (sound_ascends c m raw T S) x L (read T L)
@@ -228,7 +228,7 @@ module _ (c m : ℕ) (raw : List ℕ) (T : Table) where
     key_free row f q h e =
         f (rw (keys_read T L (key_kept T L (sound_good c m raw T S).fit), ← e) (mem_map key (read T L) q h))
 
-  added_slice : (row : Row) (k : ℕ) → add_answer c m raw (keys T) row ≡ Done k
+  added_slice : (row : Row) (k : ℕ) → add_answer c m raw (keys T) row ≡ Ok k
       → Edited c m (added_layer c m raw (keys T) row) raw (add_slice c m raw (keys T) row)
   added_slice row k e =
       let w = (counts (add_table c m raw (keys T) row) k e).1 in
@@ -237,14 +237,14 @@ module _ (c m : ℕ) (raw : List ℕ) (T : Table) where
       rw e (step_slice_lem S (adding row) (w.0.1, key_free S row own.0)
       (rw (add_length (keys T) row L, layer_length c m raw) own.1.0) k)
 
-  struck_slice : (r k : ℕ) → strike_answer c m raw (keys T) r ≡ Done k
+  struck_slice : (r k : ℕ) → strike_answer c m raw (keys T) r ≡ Ok k
       → Edited c m (struck_layer c m raw (keys T) r) raw (strike_slice c m raw (keys T) r)
   struck_slice r k e =
       let own = (counts (strike_table c m raw (keys T) r) k e).1.1.1.1.1 in
       let S = strike_sound c m raw (keys T) k r e in
       rw e (step_slice_lem S (striking r) (row_there S r own.0) own.1.0 k)
 
-  changed_slice : (r j v k : ℕ) → change_answer c m raw (keys T) r j v ≡ Done k
+  changed_slice : (r j v k : ℕ) → change_answer c m raw (keys T) r j v ≡ Ok k
       → Edited c m (changed_layer c m raw (keys T) r j v) raw (change_slice c m raw (keys T) r j v)
   changed_slice r j v k e =
       let w = (counts (change_table c m raw (keys T) r j v) k e).1 in
@@ -253,7 +253,7 @@ module _ (c m : ℕ) (raw : List ℕ) (T : Table) where
       rw e (step_slice_lem S (changing r j (to v)) (row_there S r own.0, own.1.0, w.0.1) own.1.1.0 k)
 
   -- a row that is renumbered has the table's width
-  pub renumber_over_slice : (ok : Bool) → Wide c T → (r g k : ℕ) → renumber_over ok c m raw T r g ≡ Done k
+  pub renumber_over_slice : (ok : Bool) → Wide c T → (r g k : ℕ) → renumber_over ok c m raw T r g ≡ Ok k
       → Edited c m (renumber_row T r g L) raw (edited c m (renumber_over ok c m raw T r g) (renumber_row T r g L) raw)
   renumber_over_slice ok wide r g k e =
       let w = (counts (renumber_over_table ok (ok ≡ true) (λ x. x, λ x. x) c m raw T r g) k e).1 in
@@ -262,7 +262,7 @@ module _ (c m : ℕ) (raw : List ℕ) (T : Table) where
       rw e (step_slice_lem S (renumbering r g) ((renumber_allowed c m raw T r g S wide).0 (own.0, own.1.0)) own.1.1.0 k)
 
   -- combining: R is the layer of raw
-  combined_slice : (mW : ℕ) (rawW out : List ℕ) (k : ℕ) → combine_answer c (keys T) m raw mW rawW (length out) ≡ Done k
+  combined_slice : (mW : ℕ) (rawW out : List ℕ) (k : ℕ) → combine_answer c (keys T) m raw mW rawW (length out) ≡ Ok k
       → Written (flat c (combined_layer c (keys T) m raw mW rawW)) out (combine_slice c (keys T) m raw mW rawW out)
       × (layer_of c k (combine_slice c (keys T) m raw mW rawW out) ≡ combined_layer c (keys T) m raw mW rawW)
   combined_slice mW rawW out k e =
@@ -292,42 +292,42 @@ moved_wide c Y (at s (change j (to v))) = refl
 
 -- The calls over any key column: what an accepted one leaves.
 module _ (c m : ℕ) (raw K : List ℕ) (k : ℕ) where
-  pub add_slice_lem : (row : Row) → add_answer c m raw K row ≡ Done k
+  pub add_slice_lem : (row : Row) → add_answer c m raw K row ≡ Ok k
       → Edited c m (added_layer c m raw K row) raw (add_slice c m raw K row)
   add_slice_lem row =
-      subst (λ (N : List ℕ). add_answer c m raw N row ≡ Done k
+      subst (λ (N : List ℕ). add_answer c m raw N row ≡ Ok k
       → Edited c m (added_layer c m raw N row) raw (add_slice c m raw N row))
       (keys_singles K) (added_slice c m raw (singles K) row k)
 
-  pub strike_slice_lem : (r : ℕ) → strike_answer c m raw K r ≡ Done k
+  pub strike_slice_lem : (r : ℕ) → strike_answer c m raw K r ≡ Ok k
       → Edited c m (struck_layer c m raw K r) raw (strike_slice c m raw K r)
   strike_slice_lem r =
-      subst (λ (N : List ℕ). strike_answer c m raw N r ≡ Done k
+      subst (λ (N : List ℕ). strike_answer c m raw N r ≡ Ok k
       → Edited c m (struck_layer c m raw N r) raw (strike_slice c m raw N r))
       (keys_singles K) (struck_slice c m raw (singles K) r k)
 
-  pub change_slice_lem : (r j v : ℕ) → change_answer c m raw K r j v ≡ Done k
+  pub change_slice_lem : (r j v : ℕ) → change_answer c m raw K r j v ≡ Ok k
       → Edited c m (changed_layer c m raw K r j v) raw (change_slice c m raw K r j v)
   change_slice_lem r j v =
-      subst (λ (N : List ℕ). change_answer c m raw N r j v ≡ Done k
+      subst (λ (N : List ℕ). change_answer c m raw N r j v ≡ Ok k
       → Edited c m (changed_layer c m raw N r j v) raw (change_slice c m raw N r j v))
       (keys_singles K) (changed_slice c m raw (singles K) r j v k)
 
-  pub renumber_slice_lem : (n : ℕ) (table : List ℕ) (r g : ℕ) → renumber_answer c n m raw table r g ≡ Done k
+  pub renumber_slice_lem : (n : ℕ) (table : List ℕ) (r g : ℕ) → renumber_answer c n m raw table r g ≡ Ok k
       → Edited c m (renumbered_layer c n m raw table r g) raw (renumber_slice c n m raw table r g)
   renumber_slice_lem n table r g =
       renumber_over_slice c m raw (columnwise c n n table) (leb (c * n) (length table)) (columnwise_wide c n n table) r g k
 
-  pub combine_slice_lem : (mW : ℕ) (rawW out : List ℕ) → combine_answer c K m raw mW rawW (length out) ≡ Done k
+  pub combine_slice_lem : (mW : ℕ) (rawW out : List ℕ) → combine_answer c K m raw mW rawW (length out) ≡ Ok k
       → Written (flat c (combined_layer c K m raw mW rawW)) out (combine_slice c K m raw mW rawW out)
       × (layer_of c k (combine_slice c K m raw mW rawW out) ≡ combined_layer c K m raw mW rawW)
   combine_slice_lem mW rawW out =
-      subst (λ (N : List ℕ). combine_answer c N m raw mW rawW (length out) ≡ Done k
+      subst (λ (N : List ℕ). combine_answer c N m raw mW rawW (length out) ≡ Ok k
       → Written (flat c (combined_layer c N m raw mW rawW)) out (combine_slice c N m raw mW rawW out)
       × (layer_of c k (combine_slice c N m raw mW rawW out) ≡ combined_layer c N m raw mW rawW))
       (keys_singles K) (combined_slice c m raw (singles K) mW rawW out k)
 
-  pub move_slice_lem : (mY : ℕ) (rawY : List ℕ) → move_answer c K m raw mY rawY ≡ Done k
+  pub move_slice_lem : (mY : ℕ) (rawY : List ℕ) → move_answer c K m raw mY rawY ≡ Ok k
       → Written (flat c (moved_layer c m raw mY rawY)) raw (move_slice c K m raw mY rawY)
   move_slice_lem mY rawY e =
       let X = layer_of c m raw in
@@ -341,7 +341,7 @@ module _ (c m : ℕ) (raw K : List ℕ) (k : ℕ) where
       let size : length (move X Y) ≡ m = length-map X (moved Y) ∙ layer_length c m raw in
       rw e (wrote (flat c (move X Y)) raw (omega (arith, wide, ap (λ (q : ℕ). q * (c + 2)) size, w.0.0.fits)))
 
-  pub read_slice_lem : (j : ℕ) (out : List ℕ) → read_answer c m raw K j (length out) ≡ Done k
+  pub read_slice_lem : (j : ℕ) (out : List ℕ) → read_answer c m raw K j (length out) ≡ Ok k
       → Written (shown_column c m raw K j) out (read_slice c m raw K j out)
   read_slice_lem j out e =
       let w = (counts (read_table c m raw K j (length out)) k e).1 in
@@ -349,27 +349,27 @@ module _ (c m : ℕ) (raw K : List ℕ) (k : ℕ) where
 
 -- a refused one leaves all of it
 module _ (c m : ℕ) (raw K : List ℕ) (x : Refusal) where
-  pub add_refused : (row : Row) → add_answer c m raw K row ≡ Refused x → add_slice c m raw K row ≡ raw
+  pub add_refused : (row : Row) → add_answer c m raw K row ≡ Err x → add_slice c m raw K row ≡ raw
   add_refused row e = rw e
 
-  pub strike_refused : (r : ℕ) → strike_answer c m raw K r ≡ Refused x → strike_slice c m raw K r ≡ raw
+  pub strike_refused : (r : ℕ) → strike_answer c m raw K r ≡ Err x → strike_slice c m raw K r ≡ raw
   strike_refused r e = rw e
 
-  pub change_refused : (r j v : ℕ) → change_answer c m raw K r j v ≡ Refused x → change_slice c m raw K r j v ≡ raw
+  pub change_refused : (r j v : ℕ) → change_answer c m raw K r j v ≡ Err x → change_slice c m raw K r j v ≡ raw
   change_refused r j v e = rw e
 
-  pub renumber_refused : (n : ℕ) (table : List ℕ) (r g : ℕ) → renumber_answer c n m raw table r g ≡ Refused x
+  pub renumber_refused : (n : ℕ) (table : List ℕ) (r g : ℕ) → renumber_answer c n m raw table r g ≡ Err x
       → renumber_slice c n m raw table r g ≡ raw
   renumber_refused n table r g e = rw e
 
-  pub combine_refused : (mW : ℕ) (rawW out : List ℕ) → combine_answer c K m raw mW rawW (length out) ≡ Refused x
+  pub combine_refused : (mW : ℕ) (rawW out : List ℕ) → combine_answer c K m raw mW rawW (length out) ≡ Err x
       → combine_slice c K m raw mW rawW out ≡ out
   combine_refused mW rawW out e = rw e
 
-  pub move_refused : (mY : ℕ) (rawY : List ℕ) → move_answer c K m raw mY rawY ≡ Refused x
+  pub move_refused : (mY : ℕ) (rawY : List ℕ) → move_answer c K m raw mY rawY ≡ Err x
       → move_slice c K m raw mY rawY ≡ raw
   move_refused mY rawY e = rw e
 
-  pub read_refused : (j : ℕ) (out : List ℕ) → read_answer c m raw K j (length out) ≡ Refused x
+  pub read_refused : (j : ℕ) (out : List ℕ) → read_answer c m raw K j (length out) ≡ Err x
       → read_slice c m raw K j out ≡ out
   read_refused j out e = rw e

@@ -34,29 +34,30 @@ use borrow.Author.Tests.{
   ne_eqb,
   not-false,
 }
+use Rattle.words.specs.declared.Origin.{Origin}
+use Rattle.words.specs.declared.Origin.TheVariants.{Base as base, Added as added}
+use Rattle.words.specs.declared.Cause.TheVariants.{BadArguments, BadForm, KeysUnordered, BadFit, NoSuchRow, KeyColumn, KeyShown, InConflict, NoRoom, TooManyRows, ShortBuffer}
+use Rattle.std.specs.Prelude.{Ok, Err}
 use Rattle.order.specs.Lists.{ascending, any, without}
 use Rattle.order.proofs.Tests.{impossible, and_l, and_r, and_of, not_passed}
 use Rattle.order.proofs.Members.{any_mem, any_of}
 use Rattle.order.proofs.Counts.{count_insert}
 use Rattle.order.proofs.Pairs.{broken_le}
 use Rattle.order.proofs.Ascending.{mem_at, at_mem, at_length, at_get_or, get_or_at}
+use Rattle.words.specs.declared.Cause.{Cause}
 use Rattle.words.specs.declared.Refusal.{Refusal}
-use Rattle.words.specs.declared.Answer.TheVariants.{Done, Refused}
-use Rattle.words.specs.declared.Shifted.TheVariants as shifted
-use Rattle.words.specs.declared.Back.{Back}
-use Rattle.words.specs.declared.Back.TheVariants as backed
 use Rattle.model.specs.Row.{Row, Table, key, keys, columnwise}
 use Rattle.model.specs.Layer.{add, at, Layer, is_add, is_strike, rows_after}
 use Rattle.model.specs.Raw.{entries_of, layer_of, room}
 use Rattle.model.specs.Form.{args_ok, form_place}
 use Rattle.model.specs.Fit.{suits, rises, fit_place, keys_below}
 use Rattle.model.specs.Read.{keys_after}
-use Rattle.model.specs.Position.{shift, row_of, Origin, base, added, back}
+use Rattle.model.specs.Position.{shift, row_of, back}
 use Rattle.model.specs.Edits.{before, add_row, renumber_row}
 use Rattle.model.specs.Conflict.{conflict_place}
 use Rattle.model.specs.Demand.{Conflicting}
 use Rattle.model.specs.Refusals.{Test, refuse, bad_row, no_room, breaks_form, shown_key}
-use Rattle.words.specs.Answer.{refusal}
+use Rattle.words.specs.Answer.{cause_number, refusal}
 use Rattle.model.specs.Calls.{
   form_rows,
   fit_rows,
@@ -69,7 +70,6 @@ use Rattle.model.specs.Calls.{
   read_answer,
   shift_answer,
   row_answer,
-  origin_answer,
   back_answer,
   added_layer,
   add_answer,
@@ -163,24 +163,24 @@ not_elsewhere g r xs =
 
 -- 1 and 2 of a layer over n rows, where Own passes the arguments; 3 and 4
 abbrev pub form_lines : Type 0 → ℕ → ℕ → ℕ → List ℕ → List Line
-form_lines Own c n m raw = line 1 0 Own ∷ line 2 (form_place c n (entries_of c m raw)) (FormKept c n m raw) ∷ []
+form_lines Own c n m raw = line BadArguments 0 Own ∷ line BadForm (form_place c n (entries_of c m raw)) (FormKept c n m raw) ∷ []
 
 abbrev pub fit_lines : List ℕ → Layer → List Line
-fit_lines K L = line 3 0 (Ascends K) ∷ line 4 (fit_place K L) (Fitting K L (length L)) ∷ []
+fit_lines K L = line KeysUnordered 0 (Ascends K) ∷ line BadFit (fit_place K L) (Fitting K L (length L)) ∷ []
 
 -- the same of two layers: the place of the second is 1,000 more
 abbrev pub both_form_lines : Type 0 → ℕ → ℕ → ℕ → List ℕ → ℕ → ℕ → List ℕ → List Line
 both_form_lines Own c n m raw p k other =
-    line 1 0 Own
-    ∷ line 2 (form_place c n (entries_of c m raw)) (FormKept c n m raw)
-    ∷ line 2 (1000 + form_place c p (entries_of c k other)) (FormKept c p k other)
+    line BadArguments 0 Own
+    ∷ line BadForm (form_place c n (entries_of c m raw)) (FormKept c n m raw)
+    ∷ line BadForm (1000 + form_place c p (entries_of c k other)) (FormKept c p k other)
     ∷ []
 
 abbrev pub both_fit_lines : List ℕ → Layer → List ℕ → Layer → List Line
 both_fit_lines K L N M =
-    line 3 0 (Ascends K)
-    ∷ line 4 (fit_place K L) (Fitting K L (length L))
-    ∷ line 4 (1000 + fit_place N M) (Fitting N M (length M))
+    line KeysUnordered 0 (Ascends K)
+    ∷ line BadFit (fit_place K L) (Fitting K L (length L))
+    ∷ line BadFit (1000 + fit_place N M) (Fitting N M (length M))
     ∷ []
 
 -- then those of one call alone
@@ -230,7 +230,7 @@ module _ (c n m : ℕ) (raw : List ℕ) where
   says_check : Says (form_rows (args_ok c n m (length raw)) c n m raw) check_lines
   says_check = says_form (args_ok c n m (length raw)) _ (args_exactly c n m (length raw)) c n m raw (λ w. w)
 
-  pub form_table : Exactly Refused (form_answer c n m raw) (Done (rows_after n (layer_of c m raw))) check_lines
+  pub form_table : Exactly Err (form_answer c n m raw) (Ok (rows_after n (layer_of c m raw))) check_lines
   unfolding form_answer
   form_table = exactly_counts _ says_check
 
@@ -244,26 +244,22 @@ module _ (c n m : ℕ) (raw : List ℕ) where
       (own_pass c n m (length raw) (leb s n) (s ≤ n) (leb-true s n, le-leb s n)) c n m raw (λ w. w.0)
 
   pub shift_table : (s : ℕ)
-      → Exactly shifted.Refused (shift_answer c n m raw s) (shifted.By (shift (layer_of c m raw) s)) (place_lines s)
+      → Exactly Err (shift_answer c n m raw s) (Ok (shift (layer_of c m raw) s)) (place_lines s)
   unfolding shift_answer
-  shift_table s = exactly shifted.Refused _ (λ x e. impossible (cc)) (λ x y e. cc) (says_place s)
+  shift_table s = exactly Err _ (λ x e. impossible (cc)) (λ x y e. cc) (says_place s)
 
-  pub row_table : (s : ℕ) → Exactly Refused (row_answer c n m raw s) (Done (row_of (layer_of c m raw) s)) (place_lines s)
+  pub row_table : (s : ℕ) → Exactly Err (row_answer c n m raw s) (Ok (row_of (layer_of c m raw) s)) (place_lines s)
   unfolding row_answer
   row_table s = exactly_counts _ (says_place s)
 
   abbrev pub back_lines : ℕ → List Line
-  back_lines r = check_lines ++ (line 5 0 (r < rows_after n (layer_of c m raw)) ∷ [])
-
-  origin_apart : (o : Origin) (x : Refusal) → backed.Refused x ≡ origin_answer o → ⊥
-  origin_apart (base s) x e = impossible (cc)
-  origin_apart (added i) x e = impossible (cc)
+  back_lines r = check_lines ++ (line NoSuchRow 0 (r < rows_after n (layer_of c m raw)) ∷ [])
 
   pub back_table : (r : ℕ)
-      → Exactly backed.Refused (back_answer c n m raw r) (origin_answer (back n (layer_of c m raw) r)) (back_lines r)
+      → Exactly Err (back_answer c n m raw r) (Ok (back n (layer_of c m raw) r)) (back_lines r)
   unfolding back_answer
   back_table r =
-      exactly backed.Refused _ (origin_apart (back n (layer_of c m raw) r)) (λ x y e. cc)
+      exactly Err _ (λ x e. impossible (cc)) (λ x y e. cc)
       (says_then says_check (λ w. step refl (not_upto (rows_after n (layer_of c m raw)) r) (λ v. none)))
 
 -- Reading column j into a buffer of len numbers.
@@ -271,9 +267,9 @@ module _ (c m : ℕ) (raw xs : List ℕ) (j len : ℕ) where
   abbrev pub read_lines : List Line
   read_lines =
       form_lines (ArgsPass c (length xs) m (length raw) × (j < c)) c (length xs) m raw
-      ++ (line 11 0 (length (shown_column c m raw xs j) ≤ len) ∷ [])
+      ++ (line ShortBuffer 0 (length (shown_column c m raw xs j) ≤ len) ∷ [])
 
-  pub read_table : Exactly Refused (read_answer c m raw xs j len) (Done (length (shown_column c m raw xs j))) read_lines
+  pub read_table : Exactly Err (read_answer c m raw xs j len) (Ok (length (shown_column c m raw xs j))) read_lines
   unfolding read_answer
   read_table =
       exactly_counts _
@@ -290,11 +286,11 @@ module _ (c m : ℕ) (raw K : List ℕ) where
       ready_lines
   says_ready = says_then (says_check c (length K) m raw) (λ w. says_fit K (layer_of c m raw))
 
-  pub ready_table : Exactly Refused (ready_answer c m raw K) (Done (rows_after (length K) (layer_of c m raw))) ready_lines
+  pub ready_table : Exactly Err (ready_answer c m raw K) (Ok (rows_after (length K) (layer_of c m raw))) ready_lines
   unfolding ready_answer
   ready_table = exactly_counts _ says_ready
 
-  pub fit_table : Exactly Refused (fit_answer c m raw K) (Done 0) ready_lines
+  pub fit_table : Exactly Err (fit_answer c m raw K) (Ok 0) ready_lines
   unfolding fit_answer
   fit_table = exactly_counts _ says_ready
 
@@ -316,9 +312,9 @@ module _ (c m : ℕ) (raw K : List ℕ) where
   module _ (row : Row) where
     abbrev pub add_lines : List Line
     add_lines = edit_lines (length row ≡ c) (
-        line 7 0 (Mem (key row) (keys_after K (layer_of c m raw)) → ⊥)
-        ∷ line 9 0 (Roomy c (length raw) (suc m))
-        ∷ line 10 0 (rows_after (length K) (layer_of c m raw) < 4096)
+        line KeyShown 0 (Mem (key row) (keys_after K (layer_of c m raw)) → ⊥)
+        ∷ line NoRoom 0 (Roomy c (length raw) (suc m))
+        ∷ line TooManyRows 0 (rows_after (length K) (layer_of c m raw) < 4096)
         ∷ [])
 
     one_more : FormKept c (length K) m raw → ArgsPass c (length K) m (length raw)
@@ -342,7 +338,7 @@ module _ (c m : ℕ) (raw K : List ℕ) where
       λ h. le-ltb 4096 (rows_after (length K) (add_row K row (layer_of c m raw))) (omega (arith, one_more kept args)),
     )
 
-    pub add_table : Exactly Refused (add_answer c m raw K row) (Done (length (added_layer c m raw K row))) add_lines
+    pub add_table : Exactly Err (add_answer c m raw K row) (Ok (length (added_layer c m raw K row))) add_lines
     unfolding add_answer
     add_table =
         exactly_counts _
@@ -357,15 +353,15 @@ module _ (c m : ℕ) (raw K : List ℕ) where
   module _ (r j v : ℕ) where
     abbrev pub change_lines : List Line
     change_lines = edit_lines (j < c) (
-        line 5 0 (r < rows_after (length K) (layer_of c m raw))
-        ∷ line 6 0 (1 ≤ j)
-        ∷ line 9 0 (Roomy c (length raw) (length (changed_layer c m raw K r j v)))
+        line NoSuchRow 0 (r < rows_after (length K) (layer_of c m raw))
+        ∷ line KeyColumn 0 (1 ≤ j)
+        ∷ line NoRoom 0 (Roomy c (length raw) (length (changed_layer c m raw K r j v)))
         ∷ [])
 
     past_key : (eqb j 0 ≡ false) ↔ (1 ≤ j)
     past_key = (λ h. omega (arith, eqb-false j 0 h), λ h. ne_eqb j 0 (λ e. omega arith))
 
-    pub change_table : Exactly Refused (change_answer c m raw K r j v) (Done (length (changed_layer c m raw K r j v)))
+    pub change_table : Exactly Err (change_answer c m raw K r j v) (Ok (length (changed_layer c m raw K r j v)))
         change_lines
     unfolding change_answer
     change_table =
@@ -380,11 +376,11 @@ module _ (c m : ℕ) (raw K : List ℕ) where
     abbrev pub strike_lines : List Line
     strike_lines =
         check_lines c (length K) m raw ++ (fit_lines K (layer_of c m raw) ++ (
-        line 5 0 (r < rows_after (length K) (layer_of c m raw))
-        ∷ line 9 0 (Roomy c (length raw) (length (struck_layer c m raw K r)))
+        line NoSuchRow 0 (r < rows_after (length K) (layer_of c m raw))
+        ∷ line NoRoom 0 (Roomy c (length raw) (length (struck_layer c m raw K r)))
         ∷ []))
 
-    pub strike_table : Exactly Refused (strike_answer c m raw K r) (Done (length (struck_layer c m raw K r))) strike_lines
+    pub strike_table : Exactly Err (strike_answer c m raw K r) (Ok (length (struck_layer c m raw K r))) strike_lines
     unfolding strike_answer
     strike_table =
         exactly_counts _
@@ -397,9 +393,9 @@ module _ (c m : ℕ) (raw K : List ℕ) where
 module _ (c n m : ℕ) (raw K : List ℕ) (r g : ℕ) where
   abbrev pub renumber_own : Layer → List Line
   renumber_own M =
-      line 5 0 (r < rows_after n (layer_of c m raw))
-      ∷ line 7 0 (Elsewhere g r (keys_after K (layer_of c m raw)) → ⊥)
-      ∷ line 9 0 (Roomy c (length raw) (length M))
+      line NoSuchRow 0 (r < rows_after n (layer_of c m raw))
+      ∷ line KeyShown 0 (Elsewhere g r (keys_after K (layer_of c m raw)) → ⊥)
+      ∷ line NoRoom 0 (Roomy c (length raw) (length M))
       ∷ []
 
   abbrev pub renumber_lines : Type 0 → Layer → List Line
@@ -410,7 +406,7 @@ module _ (c n m : ℕ) (raw K : List ℕ) (r g : ℕ) where
       → (1 ≤ c → Own → N ≡ K)
       → Says (form_rows (args_ok c p m (length raw) && ok) c p m raw
       ++ (fit_rows N (layer_of c m raw)
-      ++ (bad_row p (layer_of c m raw) r ∷ refuse 7 0 (shown_key g (without r (keys_after N (layer_of c m raw))))
+      ++ (bad_row p (layer_of c m raw) r ∷ refuse KeyShown 0 (shown_key g (without r (keys_after N (layer_of c m raw))))
       ∷ no_room c (length raw) M ∷ []))) (renumber_lines Own M)
   says_renumber ok Own f M N p e same =
       let L = layer_of c m raw in
@@ -421,7 +417,7 @@ module _ (c n m : ℕ) (raw K : List ℕ) (r g : ℕ) where
       step refl (in_room c (length raw) (length M) _ refl) (λ z. none)))))))
 
 pub renumber_over_table : (ok : Bool) (Own : Type 0) → ((ok ≡ true) ↔ Own) → (c m : ℕ) (raw : List ℕ) (T : Table) (r g : ℕ)
-    → Exactly Refused (renumber_over ok c m raw T r g) (Done (length (renumber_row T r g (layer_of c m raw))))
+    → Exactly Err (renumber_over ok c m raw T r g) (Ok (length (renumber_row T r g (layer_of c m raw))))
     (renumber_lines c (length (keys T)) m raw (keys T) r g Own (renumber_row T r g (layer_of c m raw)))
 unfolding renumber_over
 renumber_over_table ok Own f c m raw T r g =
@@ -435,8 +431,8 @@ module _ (c n m : ℕ) (raw table : List ℕ) (r g : ℕ) where
   renumber_call_lines =
       renumber_lines c n m raw (take n table) r g (c * n ≤ length table) (renumbered_layer c n m raw table r g)
 
-  pub renumber_table : Exactly Refused (renumber_answer c n m raw table r g)
-      (Done (length (renumbered_layer c n m raw table r g))) renumber_call_lines
+  pub renumber_table : Exactly Err (renumber_answer c n m raw table r g)
+      (Ok (length (renumbered_layer c n m raw table r g))) renumber_call_lines
   unfolding renumber_over
   renumber_table =
       let T = columnwise c n n table in
@@ -459,8 +455,8 @@ module _ (c : ℕ) (K : List ℕ) (mR : ℕ) (rawR : List ℕ) (mW : ℕ) (rawW 
   module _ (len : ℕ) where
     abbrev pub combine_own : List Line
     combine_own =
-        line 9 0 (Roomy c len (length (combined_layer c K mR rawR mW rawW)))
-        ∷ line 10 0 (rows_after (length K) (combined_layer c K mR rawR mW rawW) ≤ 4096)
+        line NoRoom 0 (Roomy c len (length (combined_layer c K mR rawR mW rawW)))
+        ∷ line TooManyRows 0 (rows_after (length K) (combined_layer c K mR rawR mW rawW) ≤ 4096)
         ∷ []
 
     abbrev pub combine_lines : List Line
@@ -468,8 +464,8 @@ module _ (c : ℕ) (K : List ℕ) (mR : ℕ) (rawR : List ℕ) (mW : ℕ) (rawW 
         both_lines BothArgs c (length K) mR rawR (rows_after (length K) (layer_of c mR rawR)) mW rawW K
         (keys_after K (layer_of c mR rawR)) combine_own
 
-    pub combine_table : Exactly Refused (combine_answer c K mR rawR mW rawW len)
-        (Done (length (combined_layer c K mR rawR mW rawW))) combine_lines
+    pub combine_table : Exactly Err (combine_answer c K mR rawR mW rawW len)
+        (Ok (length (combined_layer c K mR rawR mW rawW))) combine_lines
     unfolding combine_answer
     combine_table =
         exactly_counts _
@@ -481,15 +477,15 @@ module _ (c : ℕ) (K : List ℕ) (mR : ℕ) (rawR : List ℕ) (mW : ℕ) (rawW 
   -- moving the first, X, past the second, Y
   abbrev pub move_own : List Line
   move_own =
-      line 8 (conflict_place (layer_of c mR rawR) (layer_of c mW rawW))
+      line InConflict (conflict_place (layer_of c mR rawR) (layer_of c mW rawW))
       (Conflicting (layer_of c mR rawR) (layer_of c mW rawW) → ⊥)
-      ∷ line 10 0 (rows_after (rows_after (length K) (layer_of c mW rawW)) (layer_of c mR rawR) ≤ 4096)
+      ∷ line TooManyRows 0 (rows_after (rows_after (length K) (layer_of c mW rawW)) (layer_of c mR rawR) ≤ 4096)
       ∷ []
 
   abbrev pub move_lines : List Line
   move_lines = both_lines BothArgs c (length K) mR rawR (length K) mW rawW K K move_own
 
-  pub move_table : Exactly Refused (move_answer c K mR rawR mW rawW) (Done mR) move_lines
+  pub move_table : Exactly Err (move_answer c K mR rawR mW rawW) (Ok mR) move_lines
   unfolding move_answer
   move_table =
       exactly_counts _
@@ -542,7 +538,7 @@ module _ (c m : ℕ) (raw K : List ℕ) where
 
 -- A place of 1,000 and more: exactly where the first layer passes and the second does not.
 module _ (Own : Type 0) (c n m : ℕ) (raw : List ℕ) (p k : ℕ) (other K N : List ℕ) (own : List Line)
-    (few : Own → m ≤ 512) (late : (l y : ℕ) → RefusedBy l y own → 4 < l) (x : ℕ) where
+    (few : Own → m ≤ 512) (late : (l : Cause) (y : ℕ) → RefusedBy l y own → 4 < cause_number l) (x : ℕ) where
   abbrev L : Layer
   L = layer_of c m raw
 
@@ -559,59 +555,60 @@ module _ (Own : Type 0) (c n m : ℕ) (raw : List ℕ) (p k : ℕ) (other K N : 
     omega (arith, broken_le (suits K L) rises [] L, layer_length c m raw, few w),
   )
 
-  fit_late : (l : ℕ) → RefusedBy l x after_form → 2 < l
-  fit_late l (inl w) = omega (arith, w.1)
+  fit_late : (l : Cause) → RefusedBy l x after_form → 2 < cause_number l
+  fit_late l (inl w) = omega (arith, ap cause_number w.1)
   fit_late l (inr w) =
-      ⊎_elim (λ z. omega (arith, z.1))
-      (λ z. ⊎_elim (λ y. omega (arith, y.1)) (λ y. omega (arith, late l x y.1)) z.1) w.1
+      ⊎_elim (λ z. omega (arith, ap cause_number z.1))
+      (λ z. ⊎_elim (λ y. omega (arith, ap cause_number y.1)) (λ y. omega (arith, late l x y.1)) z.1) w.1
 
   -- the lines of the second layer, with those after them
   abbrev second_form : List Line
-  second_form = line 2 (1000 + form_place c p (entries_of c k other)) (FormKept c p k other) ∷ after_form
+  second_form = line BadForm (1000 + form_place c p (entries_of c k other)) (FormKept c p k other) ∷ after_form
 
   abbrev second_fit : List Line
-  second_fit = line 4 (1000 + fit_place N M) (Fitting N M (length M)) ∷ own
+  second_fit = line BadFit (1000 + fit_place N M) (Fitting N M (length M)) ∷ own
 
   abbrev OnlySecond : Type 0 → Type 0 → Type 0
   OnlySecond First Second = (1000 ≤ x) ↔ (First × (Second → ⊥))
 
-  pub second_form_lem : RefusedBy 2 x (both_lines Own c n m raw p k other K N own)
+  pub second_form_lem : RefusedBy BadForm x (both_lines Own c n m raw p k other K N own)
       → (1000 ≤ x) ↔ (FormKept c n m raw × (FormKept c p k other → ⊥))
-  second_form_lem (inl w) = absurd (omega (arith, w.1))
+  second_form_lem (inl w) = absurd (omega (arith, ap cause_number w.1))
   second_form_lem (inr w) = first w.1
     where
-      second : FormKept c n m raw → RefusedBy 2 x second_form → OnlySecond (FormKept c n m raw) (FormKept c p k other)
+      second : FormKept c n m raw → RefusedBy BadForm x second_form → OnlySecond (FormKept c n m raw) (FormKept c p k other)
       second b (inl z) = (λ h. (b, z.0), λ h. omega (arith, z.2))
-      second b (inr z) = absurd (omega (arith, fit_late 2 z.1))
+      second b (inr z) = absurd (omega (arith, fit_late BadForm z.1))
 
-      first : RefusedBy 2 x (line 2 (form_place c n (entries_of c m raw)) (FormKept c n m raw) ∷ second_form)
+      first : RefusedBy BadForm x (line BadForm (form_place c n (entries_of c m raw)) (FormKept c n m raw) ∷ second_form)
           → OnlySecond (FormKept c n m raw) (FormKept c p k other)
       first (inl z) = (λ h. absurd (omega (arith, z.2, low w.0)), λ h. absurd (z.0 h.0))
       first (inr z) = second z.0 z.1
 
-  pub second_fit_lem : RefusedBy 4 x (both_lines Own c n m raw p k other K N own)
+  pub second_fit_lem : RefusedBy BadFit x (both_lines Own c n m raw p k other K N own)
       → (1000 ≤ x) ↔ (Fitting K L (length L) × (Fitting N M (length M) → ⊥))
-  second_fit_lem (inl w) = absurd (omega (arith, w.1))
+  second_fit_lem (inl w) = absurd (omega (arith, ap cause_number w.1))
   second_fit_lem (inr w) =
-      ⊎_elim (λ z. absurd (omega (arith, z.1)))
-      (λ z. ⊎_elim (λ y. absurd (omega (arith, y.1))) (λ y. keys y.1) z.1) w.1
+      ⊎_elim (λ z. absurd (omega (arith, ap cause_number z.1)))
+      (λ z. ⊎_elim (λ y. absurd (omega (arith, ap cause_number y.1))) (λ y. keys y.1) z.1) w.1
     where
-      second : Fitting K L (length L) → RefusedBy 4 x second_fit → OnlySecond (Fitting K L (length L)) (Fitting N M (length M))
+      second : Fitting K L (length L) → RefusedBy BadFit x second_fit → OnlySecond (Fitting K L (length L)) (Fitting N M (length M))
       second e (inl z) = (λ h. (e, z.0), λ h. omega (arith, z.2))
-      second e (inr z) = absurd (omega (arith, late 4 x z.1))
+      second e (inr z) = absurd (omega (arith, late BadFit x z.1))
 
-      first : RefusedBy 4 x (line 4 (fit_place K L) (Fitting K L (length L)) ∷ second_fit)
+      first : RefusedBy BadFit x (line BadFit (fit_place K L) (Fitting K L (length L)) ∷ second_fit)
           → OnlySecond (Fitting K L (length L)) (Fitting N M (length M))
       first (inl z) = (λ h. absurd (omega (arith, z.2, low w.0)), λ h. absurd (z.0 h.0))
       first (inr z) = second z.0 z.1
 
-      keys : RefusedBy 4 x after_form → OnlySecond (Fitting K L (length L)) (Fitting N M (length M))
-      keys (inl z) = absurd (omega (arith, z.1))
+      keys : RefusedBy BadFit x after_form → OnlySecond (Fitting K L (length L)) (Fitting N M (length M))
+      keys (inl z) = absurd (omega (arith, ap cause_number z.1))
       keys (inr z) = first z.1
 
-two_late : (k p l q : ℕ) (U W : Type 0) → 4 < k → 4 < l → (h y : ℕ) → RefusedBy h y (line k p U ∷ line l q W ∷ []) → 4 < h
-two_late k p l q U W a b h y (inl w) = omega (arith, w.1)
-two_late k p l q U W a b h y (inr w) = ⊎_elim (λ z. omega (arith, z.1)) (λ z. absurd z.1) w.1
+two_late : (k : Cause) (p : ℕ) (l : Cause) (q : ℕ) (U W : Type 0) → 4 < cause_number k → 4 < cause_number l
+    → (h : Cause) (y : ℕ) → RefusedBy h y (line k p U ∷ line l q W ∷ []) → 4 < cause_number h
+two_late k p l q U W a b h y (inl w) = omega (arith, ap cause_number w.1)
+two_late k p l q U W a b h y (inr w) = ⊎_elim (λ z. omega (arith, ap cause_number z.1)) (λ z. absurd z.1) w.1
 
 module _ (c : ℕ) (K : List ℕ) (mR : ℕ) (rawR : List ℕ) (mW : ℕ) (rawW : List ℕ) where
   abbrev R : Layer
@@ -621,35 +618,35 @@ module _ (c : ℕ) (K : List ℕ) (mR : ℕ) (rawR : List ℕ) (mW : ℕ) (rawW 
   W = layer_of c mW rawW
 
   module _ (len x : ℕ) where
-    late : (l y : ℕ) → RefusedBy l y (combine_own c K mR rawR mW rawW len) → 4 < l
-    late = two_late 9 0 10 0 _ _ (omega arith) (omega arith)
+    late : (l : Cause) (y : ℕ) → RefusedBy l y (combine_own c K mR rawR mW rawW len) → 4 < cause_number l
+    late = two_late NoRoom 0 TooManyRows 0 _ _ (omega arith) (omega arith)
 
-    pub combine_second_form : combine_answer c K mR rawR mW rawW len ≡ Refused (refusal 2 x)
+    pub combine_second_form : combine_answer c K mR rawR mW rawW len ≡ Err (refusal BadForm x)
         → (1000 ≤ x) ↔ (FormKept c (length K) mR rawR × (FormKept c (rows_after (length K) R) mW rawW → ⊥))
     combine_second_form e =
         second_form_lem (BothArgs c K mR rawR mW rawW) c (length K) mR rawR (rows_after (length K) R) mW rawW K (keys_after K R)
         (combine_own c K mR rawR mW rawW len) (λ w. w.0.entries) late x
-        (((combine_table c K mR rawR mW rawW len).refuses 2 x).0 e)
+        (((combine_table c K mR rawR mW rawW len).refuses BadForm x).0 e)
 
-    pub combine_second_fit : combine_answer c K mR rawR mW rawW len ≡ Refused (refusal 4 x)
+    pub combine_second_fit : combine_answer c K mR rawR mW rawW len ≡ Err (refusal BadFit x)
         → (1000 ≤ x) ↔ (Fitting K R (length R) × (Fitting (keys_after K R) W (length W) → ⊥))
     combine_second_fit e =
         second_fit_lem (BothArgs c K mR rawR mW rawW) c (length K) mR rawR (rows_after (length K) R) mW rawW K (keys_after K R)
         (combine_own c K mR rawR mW rawW len) (λ w. w.0.entries) late x
-        (((combine_table c K mR rawR mW rawW len).refuses 4 x).0 e)
+        (((combine_table c K mR rawR mW rawW len).refuses BadFit x).0 e)
 
   module _ (x : ℕ) where
-    late_move : (l y : ℕ) → RefusedBy l y (move_own c K mR rawR mW rawW) → 4 < l
-    late_move = two_late 8 (conflict_place R W) 10 0 _ _ (omega arith) (omega arith)
+    late_move : (l : Cause) (y : ℕ) → RefusedBy l y (move_own c K mR rawR mW rawW) → 4 < cause_number l
+    late_move = two_late InConflict (conflict_place R W) TooManyRows 0 _ _ (omega arith) (omega arith)
 
-    pub move_second_form : move_answer c K mR rawR mW rawW ≡ Refused (refusal 2 x)
+    pub move_second_form : move_answer c K mR rawR mW rawW ≡ Err (refusal BadForm x)
         → (1000 ≤ x) ↔ (FormKept c (length K) mR rawR × (FormKept c (length K) mW rawW → ⊥))
     move_second_form e =
         second_form_lem (BothArgs c K mR rawR mW rawW) c (length K) mR rawR (length K) mW rawW K K
-        (move_own c K mR rawR mW rawW) (λ w. w.0.entries) late_move x (((move_table c K mR rawR mW rawW).refuses 2 x).0 e)
+        (move_own c K mR rawR mW rawW) (λ w. w.0.entries) late_move x (((move_table c K mR rawR mW rawW).refuses BadForm x).0 e)
 
-    pub move_second_fit : move_answer c K mR rawR mW rawW ≡ Refused (refusal 4 x)
+    pub move_second_fit : move_answer c K mR rawR mW rawW ≡ Err (refusal BadFit x)
         → (1000 ≤ x) ↔ (Fitting K R (length R) × (Fitting K W (length W) → ⊥))
     move_second_fit e =
         second_fit_lem (BothArgs c K mR rawR mW rawW) c (length K) mR rawR (length K) mW rawW K K
-        (move_own c K mR rawR mW rawW) (λ w. w.0.entries) late_move x (((move_table c K mR rawR mW rawW).refuses 4 x).0 e)
+        (move_own c K mR rawR mW rawW) (λ w. w.0.entries) late_move x (((move_table c K mR rawR mW rawW).refuses BadFit x).0 e)

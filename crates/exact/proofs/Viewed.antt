@@ -11,11 +11,12 @@ use lib.ListN.{length, drop, replicate, length-append, length-map, length-replic
 use lib.Seq.{take_at}
 use lib.Dec.{eqb}
 use borrow.Author.Tests.{eqb-true, eq-eqb}
+use Rattle.words.specs.declared.Origin.TheVariants.{Base as base, Added as added}
+use Rattle.std.specs.Prelude.{Ok, Err}
 use Rattle.order.specs.Lists.{any}
 use Rattle.order.proofs.Tests.{impossible, or_false}
 use Rattle.order.proofs.Members.{any_none, none_any}
 use Rattle.words.specs.declared.Refusal.{Refusal}
-use Rattle.words.specs.declared.Answer.TheVariants.{Done, Refused}
 use Rattle.model.specs.Row.{Row, cell, column}
 use Rattle.model.specs.Cell.{CellEdit}
 use Rattle.model.specs.Layer.{add, strike, change, Edit, at, Layer, rows_after, adds_at, struck, changed_cell}
@@ -31,7 +32,7 @@ use Rattle.model.specs.Read.{
   buffer_front,
   empty_base,
 }
-use Rattle.model.specs.Position.{base, added, add_numbers, origins}
+use Rattle.model.specs.Position.{add_numbers, origins}
 use Rattle.model.specs.Calls.{shown_column, read_answer, read_slice, view_part, part_numbers}
 use Rattle.theory.proofs.Position.{rows_counted}
 use Rattle.exact.proofs.FormExactly.{kept_in_order}
@@ -88,7 +89,7 @@ module _ (c m : ℕ) (raw xs : List ℕ) (j : ℕ) where
   shown = shown_column c m raw xs j
 
   -- after an accepted read the viewer's numbers are the column read
-  pub view_shows : (out : List ℕ) (k : ℕ) → read_answer c m raw xs j (length out) ≡ Done k
+  pub view_shows : (out : List ℕ) (k : ℕ) → read_answer c m raw xs j (length out) ≡ Ok k
       → part_numbers xs (read_slice c m raw xs j out) (view_part c m raw xs j (length out)) ≡ shown_column c m raw xs j
   unfolding view_part
   view_shows out k e = rw e (go (any (touches j) L) refl)
@@ -101,7 +102,7 @@ module _ (c m : ℕ) (raw xs : List ℕ) (j : ℕ) where
 
   -- the part is the base itself exactly where no entry shows in the column; refused, there is nothing to see
   module _ (len : ℕ) where
-    pub view_base : (k : ℕ) → read_answer c m raw xs j len ≡ Done k
+    pub view_base : (k : ℕ) → read_answer c m raw xs j len ≡ Ok k
         → (view_part c m raw xs j len ≡ whole_base) ↔ Untouched j (layer_of c m raw)
     unfolding view_part
     view_base k e = rw e (go (any (touches j) L) refl)
@@ -113,7 +114,7 @@ module _ (c m : ℕ) (raw xs : List ℕ) (j : ℕ) where
         )
         go false f = (λ g. (untouched_exactly j L).0 f, λ u. refl)
 
-    pub view_refused : (x : Refusal) → read_answer c m raw xs j len ≡ Refused x
+    pub view_refused : (x : Refusal) → read_answer c m raw xs j len ≡ Err x
         → (view_part c m raw xs j len ≡ empty_base) × ((out : List ℕ) → part_numbers xs out (view_part c m raw xs j len) ≡ [])
     unfolding view_part
     view_refused x e = (rw e, λ out. rw e)
@@ -164,7 +165,7 @@ column_rows c j xs L ok =
     ∙ (rows_counted c (length xs) L ok).0
 
 -- so a read that is done answers the rows after the layer
-pub read_answers : (c m : ℕ) (raw xs : List ℕ) (j len k : ℕ) → read_answer c m raw xs j len ≡ Done k
+pub read_answers : (c m : ℕ) (raw xs : List ℕ) (j len k : ℕ) → read_answer c m raw xs j len ≡ Ok k
     → k ≡ rows_after (length xs) (layer_of c m raw)
 read_answers c m raw xs j len k e =
     let w = counts (read_table c m raw xs j len) k e in

@@ -73,8 +73,8 @@ pub fn take_block(
         kept: feed.kept,
         at: 0, // what was said is written
     };
-    for k in 0..block.len() {
-        fed = intake::take_byte(fed, block[k], table, layer, line, out);
+    for &b in block {
+        fed = intake::take_byte(fed, b, table, layer, line, out);
     }
     fed
 }

@@ -4,50 +4,25 @@
 ghost use Rattle.std.specs.Prelude.{◌≡◌, ◌≤◌, ◌<◌, length, drop};
 ghost use Rattle.field.specs.Scan.{grown_by, scanned};
 
-// A number with one more digit, or past 64 bits or no digit.
-#[derive(Clone, Copy)]
-pub enum Grown {
-    To(u64),
-    Over,
-}
-
-// A number that ends the line; one with the index of the next field; no number.
+// A number that ends the line, or one with the index of the next field.
 #[derive(Clone, Copy)]
 pub enum Field {
     Last(u64),
     More(u64, usize),
-    Bad,
 }
 
-fn wide(b: u8) -> u64
-    ensures { result ≡ b }
-{
-    b as u64
-}
-
-// v with the digit b behind it.
-fn grow(v: u64, b: u8) -> Grown
+// v with the digit b behind it, where b is a digit and 64 bits hold the number.
+fn grow(v: u64, b: u8) -> Option<u64>
     ensures { result ≡ grown_by v b }
 {
-    if b < b'0' {
-        return Grown::Over;
+    if !b.is_ascii_digit() {
+        return None;
     }
-    if b'9' < b {
-        return Grown::Over;
-    }
-    if 1844674407370955161 < v {
-        return Grown::Over;
-    }
-    let tens = v * 10;
-    let ones = wide(b) - 48;
-    if 18446744073709551615 - tens < ones {
-        return Grown::Over;
-    }
-    Grown::To(tens + ones)
+    v.checked_mul(10)?.checked_add(u64::from(b - b'0'))
 }
 
-// The number that starts at index at.
-pub fn number_at(bytes: &[u8], at: usize) -> Field
+// The number that starts at index at, if one does.
+pub fn number_at(bytes: &[u8], at: usize) -> Option<Field>
     requires { at ≤ length bytes.now }
     ensures { result ≡ scanned 0 0 at (drop at bytes.now) }
 {
@@ -59,25 +34,18 @@ pub fn number_at(bytes: &[u8], at: usize) -> Field
         i += 1;
         if b == b' ' {
             if k < 1 {
-                return Field::Bad;
+                return None;
             }
-            return Field::More(v, i);
+            return Some(Field::More(v, i));
         }
         if 20 <= k {
-            return Field::Bad;
+            return None;
         }
         k += 1;
-        match grow(v, b) {
-            Grown::To(w) => {
-                v = w;
-            }
-            Grown::Over => {
-                return Field::Bad;
-            }
-        }
+        v = grow(v, b)?;
     }
     if k < 1 {
-        return Field::Bad;
+        return None;
     }
-    Field::Last(v)
+    Some(Field::Last(v))
 }

@@ -2,13 +2,11 @@
 -- `Post` is the contract as the call is proved to meet it; κs are its lifetimes, a its arguments, s what is lent at its end.
 -- Assumes nothing.
 use mathlib.Core.Path.{◌≡◌, sym, ◌∙◌}
-use mathlib.Core.List.{List}
-use Prim.Native.Nat.{ℕ}
 use contract.Lifetimes.{Lfts}
 use denote.Triple.Clauses.{AtExit}
 use borrow.Fn.Kinds.{Dens, ended_of}
+use Rattle.words.specs.Answer.{Answer}
 use Rattle.order.proofs.Unique.{Unique}
-use Rattle.words.specs.declared.Answer.{Answer}
 use Rattle.file.proofs.entries.Kinds as entries_kinds
 use Rattle.file.proofs.entries.Reads as entries_contract
 use Rattle.file.proofs.columns.Kinds as columns_kinds

@@ -5,7 +5,7 @@ ghost use Rattle.std.specs.Prelude.{◌≡◌, ◌-◌, ◌≤◌, length};
 ghost use Rattle.little.specs.Little.{number_at};
 ghost use Rattle.format.specs.File.{file_answer, load_answer, load_slice, if_done, entries_in, columns_in, rows_in, note_in};
 
-use words::Answer;
+use words::{Cause, Refusal};
 
 // The trailer's number that stands so many bytes before the end of an accepted file; 0 of a refused one.
 fn asked(file: &[u8], before: usize) -> u64
@@ -13,8 +13,8 @@ fn asked(file: &[u8], before: usize) -> u64
     ensures { let f = file.now in result ≡ if_done (file_answer f) (number_at (length f - before) f) }
 {
     match probe::check(file) {
-        Answer::Refused(x) => 0,
-        Answer::Done(_) => little::number_at(file, file.len() - before),
+        Ok(_) => little::number_at(file, file.len() - before),
+        Err(_) => 0,
     }
 }
 
@@ -42,30 +42,26 @@ pub fn note(file: &[u8]) -> usize
     ensures { result ≡ note_in file.now }
 {
     match probe::check(file) {
-        Answer::Refused(x) => 0,
-        Answer::Done(_) => file.len() - little::number_at(file, file.len() - 32) as usize,
+        Ok(_) => file.len() - little::number_at(file, file.len() - 32) as usize,
+        Err(_) => 0,
     }
 }
 
 // Reads the layer into the front of a slice; it answers the number of entries. An empty layer's file is told first, with no call.
-pub fn load(file: &[u8], layer: &mut [u64]) -> Answer
+pub fn load(file: &[u8], layer: &mut [u64]) -> Result<usize, Refusal>
     ensures { let F = file.now in let O = layer.old in
         (result ≡ load_answer F (length O)) × (layer.new ≡ load_slice F O) }
 {
     if probe::empty(file) {
-        return Answer::Done(0);
+        return Ok(0);
     }
-    match probe::whole(file) {
-        Answer::Refused(x) => Answer::Refused(x),
-        Answer::Done(m) => {
-            let len = file.len();
-            let c = little::number_at(file, len - 16) as usize;
-            let k = m * (c + 2);
-            if layer.len() < k {
-                return Answer::refused(11, 0);
-            }
-            little::read_numbers(file, len - (32 + 8 * k), k, layer);
-            Answer::Done(m)
-        }
+    let m = probe::whole(file)?;
+    let len = file.len();
+    let c = little::number_at(file, len - 16) as usize;
+    let k = m * (c + 2);
+    if layer.len() < k {
+        return words::refused(Cause::ShortBuffer, 0);
     }
+    little::read_numbers(file, len - (32 + 8 * k), k, layer);
+    Ok(m)
 }

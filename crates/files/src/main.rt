@@ -2,16 +2,16 @@
 // entries of eight columns. A line has the file's length; then what check, columns, rows, note and load answer; then three numbers of load's slice.
 #![tactic(auto)]
 
-use words::{Answer, Entry};
+use words::{Entry, Refusal};
 
 fn number(x: u64) {
     io::write_all(1, b" ");
     io::print_decimal(1, x);
 }
 
-fn answer(a: Answer) {
-    number(a.number());
-    number(a.value() as u64);
+fn answer(a: Result<usize, Refusal>) {
+    number(words::number(a));
+    number(words::value(a) as u64);
 }
 
 fn told(file: &[u8]) {

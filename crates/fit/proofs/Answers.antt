@@ -8,9 +8,10 @@ use mathlib.Core.Bool.{Bool, true, false, ◌&&◌}
 use mathlib.Core.List.{List, ◌∷◌, ◌++◌}
 use lib.ListN.{length}
 use borrow.Author.Tests.{lt-ltb, le-ltb, eqb-true, not-false}
+use Rattle.words.specs.declared.Cause.TheVariants.{BadArguments, KeysUnordered, BadFit}
+use Rattle.std.specs.Prelude.{Ok, Err}
 use Rattle.order.specs.Lists.{ascending}
 use Rattle.words.specs.declared.Refusal.{Refusal}
-use Rattle.words.specs.declared.Answer.TheVariants.{Done, Refused}
 use Rattle.model.specs.Layer.{Layer, rows_after}
 use Rattle.model.specs.Raw.{layer_of}
 use Rattle.model.specs.Form.{args_ok}
@@ -40,7 +41,7 @@ module _ {A : Type 0} (refused : Refusal → A) (c m : ℕ) (xs K : List ℕ) wh
     abbrev pub fit_call : A
     fit_call = first_met refused (rows (args_ok c (length K) m (length xs) && own) ++ tests) z
 
-    pub own_argument : own ≡ false → refused (refusal 1 0) ≡ fit_call
+    pub own_argument : own ≡ false → refused (refusal BadArguments 0) ≡ fit_call
     own_argument h =
         own_refused refused (args_ok c (length K) m (length xs)) own
         (bad_form 0 c (length K) m xs ∷ (fit_rows K (layer_of c m xs) ++ tests)) z h
@@ -59,42 +60,42 @@ module _ (c m : ℕ) (xs K : List ℕ) where
   abbrev n : ℕ
   n = length K
 
-  by_form : ready_answer c m xs K ≡ onward Refused (form_answer c n m xs) (first_met Refused (fit_rows K L) (Done (rows_after n L)))
+  by_form : ready_answer c m xs K ≡ onward Err (form_answer c n m xs) (first_met Err (fit_rows K L) (Ok (rows_after n L)))
   unfolding ready_answer form_answer
-  by_form = stage Refused (form_rows (args_ok c n m (length xs)) c n m xs) (fit_rows K L) (rows_after n L) (Done (rows_after n L))
+  by_form = stage Err (form_rows (args_ok c n m (length xs)) c n m xs) (fit_rows K L) (rows_after n L) (Ok (rows_after n L))
 
-  pub form_refused : (x : Refusal) → form_answer c n m xs ≡ Refused x → Refused x ≡ ready_answer c m xs K
+  pub form_refused : (x : Refusal) → form_answer c n m xs ≡ Err x → Err x ≡ ready_answer c m xs K
   form_refused x h = sym (by_form ∙ rw h)
 
-  module _ (k : ℕ) (f : form_answer c n m xs ≡ Done k) where
-    pub keys_refused : ascending K ≡ false → Refused (refusal 3 0) ≡ ready_answer c m xs K
+  module _ (k : ℕ) (f : form_answer c n m xs ≡ Ok k) where
+    pub keys_refused : ascending K ≡ false → Err (refusal KeysUnordered 0) ≡ ready_answer c m xs K
     keys_refused h = sym (by_form ∙ rw (f, h))
 
     module _ (a : ascending K ≡ true) (p : ℕ) (e : p ≡ fit_place K L) where
-      pub place_refused : p < m → Refused (refusal 4 p) ≡ ready_answer c m xs K
+      pub place_refused : p < m → Err (refusal BadFit p) ≡ ready_answer c m xs K
       place_refused h = sym (by_form ∙ rw (f, a, layer_length c m xs, ← e, lt-ltb p m h, zero-add))
 
-      pub ready_done : m ≤ p → Done k ≡ ready_answer c m xs K
+      pub ready_done : m ≤ p → Ok k ≡ ready_answer c m xs K
       ready_done h =
-          ap Done (accepted c n m xs k f).shown
+          ap Ok (accepted c n m xs k f).shown
           ∙ sym (by_form ∙ rw (f, a, layer_length c m xs, ← e, le-ltb p m h))
 
   -- fit answers as the check does, but for the result
-  pub fit_refused : (x : Refusal) → ready_answer c m xs K ≡ Refused x → Refused x ≡ fit_answer c m xs K
+  pub fit_refused : (x : Refusal) → ready_answer c m xs K ≡ Err x → Err x ≡ fit_answer c m xs K
   unfolding ready_answer fit_answer
   fit_refused x h = sym (stage_same (form_rows (args_ok c n m (length xs)) c n m xs ++ fit_rows K L) (rows_after n L) 0 x h)
 
-  pub fit_done : (k : ℕ) → ready_answer c m xs K ≡ Done k → Done 0 ≡ fit_answer c m xs K
+  pub fit_done : (k : ℕ) → ready_answer c m xs K ≡ Ok k → Ok 0 ≡ fit_answer c m xs K
   unfolding ready_answer fit_answer
   fit_done k h = sym (stage_other (form_rows (args_ok c n m (length xs)) c n m xs ++ fit_rows K L) (rows_after n L) k 0 h)
 
-  pub fit_ready : (k : ℕ) → fit_answer c m xs K ≡ Done k → ready_answer c m xs K ≡ Done (rows_after n L)
+  pub fit_ready : (k : ℕ) → fit_answer c m xs K ≡ Ok k → ready_answer c m xs K ≡ Ok (rows_after n L)
   unfolding ready_answer fit_answer
   fit_ready k h = stage_other (form_rows (args_ok c n m (length xs)) c n m xs ++ fit_rows K L) 0 k (rows_after n L) h
 
   -- where the check passes, the layer is ready
-  module _ (k : ℕ) (h : ready_answer c m xs K ≡ Done k) where
-    passed : (l : ℕ) × (form_answer c n m xs ≡ Done l) × (first_met Refused (fit_rows K L) (Done (rows_after n L)) ≡ Done k)
+  module _ (k : ℕ) (h : ready_answer c m xs K ≡ Ok k) where
+    passed : (l : ℕ) × (form_answer c n m xs ≡ Ok l) × (first_met Err (fit_rows K L) (Ok (rows_after n L)) ≡ Ok k)
     passed = reached (form_answer c n m xs) (sym by_form ∙ h)
 
     pub rows_shown : k ≡ rows_after n L
@@ -110,18 +111,18 @@ module _ (c m : ℕ) (xs K : List ℕ) where
         }
 
 -- the same of a layer that fit accepts
-pub fitted : (c m : ℕ) (xs K : List ℕ) (k : ℕ) → fit_answer c m xs K ≡ Done k → Ready c m xs K
+pub fitted : (c m : ℕ) (xs K : List ℕ) (k : ℕ) → fit_answer c m xs K ≡ Ok k → Ready c m xs K
 fitted c m xs K k h = is_ready c m xs K (rows_after (length K) (layer_of c m xs)) (fit_ready c m xs K k h)
 
 -- and back
 module _ {c m : ℕ} {xs K : List ℕ} (R : Ready c m xs K) where
-  pub ready_accepts : ready_answer c m xs K ≡ Done (rows_after (length K) (layer_of c m xs))
+  pub ready_accepts : ready_answer c m xs K ≡ Ok (rows_after (length K) (layer_of c m xs))
   unfolding fits
   ready_accepts =
       sym (ready_done c m xs K (rows_after (length K) (layer_of c m xs)) R.form R.keys (fit_place K (layer_of c m xs)) refl
       (omega (arith, eqb-true (fit_place K (layer_of c m xs)) (length (layer_of c m xs)) R.fit, layer_length c m xs)))
 
-  pub ready_fits : fit_answer c m xs K ≡ Done 0
+  pub ready_fits : fit_answer c m xs K ≡ Ok 0
   ready_fits = sym (fit_done c m xs K (rows_after (length K) (layer_of c m xs)) ready_accepts)
 
   pub ready_form : Accepted c (length K) m xs (rows_after (length K) (layer_of c m xs))

@@ -7,7 +7,7 @@ ghost use Rattle.model.specs.Fit.{fit_place};
 ghost use Rattle.model.specs.Calls.{ready_answer, fit_answer};
 ghost use Rattle.form.specs.InForm.{InForm};
 
-use words::Answer;
+use words::{Cause, Refusal};
 
 // The place of the least entry of a layer in form that does not fit the keys, or m.
 pub fn fit_place(c: usize, m: usize, layer: &[u64], keys: &[u64]) -> usize
@@ -36,55 +36,45 @@ pub fn fit_place(c: usize, m: usize, layer: &[u64], keys: &[u64]) -> usize
 }
 
 // Refusals 1 to 4 of one layer, one after the other: arguments, form, keys, fit. It walks the layer for form, then for fit.
-fn in_turn(c: usize, m: usize, layer: &[u64], keys: &[u64]) -> Answer
+fn in_turn(c: usize, m: usize, layer: &[u64], keys: &[u64]) -> Result<usize, Refusal>
     ensures { result ≡ ready_answer c m layer.now keys.now }
 {
-    match form::check(c, keys.len(), m, layer) {
-        Answer::Refused(x) => Answer::Refused(x),
-        Answer::Done(rows) => {
-            if !keys::ascend(keys) {
-                return Answer::refused(3, 0);
-            }
-            let place = fit_place(c, m, layer, keys);
-            if place < m {
-                return Answer::refused(4, place);
-            }
-            Answer::Done(rows)
-        }
+    let rows = form::check(c, keys.len(), m, layer)?;
+    if !keys::ascend(keys) {
+        return words::refused(Cause::KeysUnordered, 0);
     }
+    let place = fit_place(c, m, layer, keys);
+    if place < m {
+        return words::refused(Cause::BadFit, place);
+    }
+    Ok(rows)
 }
 
 // Refusals 1 to 4 of one layer: arguments, form, keys, fit. The result is the number of rows after the layer.
 // Layers stand in slow memory, so an accepted one is walked once, for form and fit together.
 // One with an entry at fault is walked again, since form further on and the keys are refused before fit.
-pub fn ready(c: usize, m: usize, layer: &[u64], keys: &[u64]) -> Answer
+pub fn ready(c: usize, m: usize, layer: &[u64], keys: &[u64]) -> Result<usize, Refusal>
     ensures { result ≡ ready_answer c m layer.now keys.now }
 {
     let n = keys.len();
     if !form::args_ok(c, n, m, layer.len()) {
-        return Answer::refused(1, 0);
+        return words::refused(Cause::BadArguments, 0);
     }
     let seen = vet::form_and_fit(c, m, layer, keys);
     if seen.place < m {
         return in_turn(c, m, layer, keys);
     }
-    match form::judge(n, m, seen) {
-        Answer::Refused(x) => Answer::Refused(x),
-        Answer::Done(rows) => {
-            if !keys::ascend(keys) {
-                return Answer::refused(3, 0);
-            }
-            Answer::Done(rows)
-        }
+    let rows = form::judge(n, m, seen)?;
+    if !keys::ascend(keys) {
+        return words::refused(Cause::KeysUnordered, 0);
     }
+    Ok(rows)
 }
 
 // Whether a layer keeps form and fits the key column.
-pub fn fit(c: usize, m: usize, layer: &[u64], keys: &[u64]) -> Answer
+pub fn fit(c: usize, m: usize, layer: &[u64], keys: &[u64]) -> Result<usize, Refusal>
     ensures { result ≡ fit_answer c m layer.now keys.now }
 {
-    match ready(c, m, layer, keys) {
-        Answer::Refused(x) => Answer::Refused(x),
-        Answer::Done(_) => Answer::Done(0),
-    }
+    ready(c, m, layer, keys)?;
+    Ok(0)
 }

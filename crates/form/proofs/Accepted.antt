@@ -4,17 +4,18 @@ use Prim.Native.Nat.{ℕ, ◌+◌, ◌*◌, ◌≤◌}
 use native.Mathlib.Omega.{arith}
 use mathlib.Core.Path.{◌≡◌, refl, sym, ap, ◌∙◌}
 use mathlib.Core.Bool.{Bool, true, false, not, cond, ◌&&◌}
-use mathlib.Core.List.{List, [], ◌∷◌, Memᴰ as Mem}
+use mathlib.Core.List.{List, Memᴰ as Mem}
 use lib.ListN.{length, take}
 use lib.Dec.{ltb, leb}
 use borrow.Author.Tests.{ltb-false, le-ltb, le-leb}
+use Rattle.words.specs.declared.Cause.TheVariants.{BadArguments, BadForm}
+use Rattle.std.specs.Prelude.{Ok, Err}
 use Rattle.order.specs.Lists.{count}
 use Rattle.order.proofs.Tests.{impossible, and_of, or_false}
 use Rattle.order.proofs.Members.{mem_map}
 use Rattle.order.proofs.Pairs.{AllPairs, pairs_unmap, none_broken}
 use Rattle.words.specs.declared.Entry.{Entry}
 use Rattle.words.specs.declared.Refusal.{Refusal}
-use Rattle.words.specs.declared.Answer.TheVariants.{Done, Refused}
 use Rattle.model.specs.Layer.{Edit, is_strike, rows_after}
 use Rattle.model.specs.Raw.{Held, entries_of, edit_of, layer_of, flat}
 use Rattle.model.specs.Form.{zeros, sound, follows, form_place, in_order, keeps_form, args_ok}
@@ -46,18 +47,18 @@ pub record Accepted (c n m : ℕ) (xs : List ℕ) (rows : ℕ) : Type 0 where
   pub numbers : flat c (layer_of c m xs) ≡ take (m * (c + 2)) xs
 
 -- neither refusal is met
-passed : (a b : Bool) (x y : Refusal) {r k : ℕ} → cond (not a) (Refused x) (cond b (Refused y) (Done r)) ≡ Done k
+passed : (a b : Bool) (x y : Refusal) {r k : ℕ} → cond (not a) (Err x) (cond b (Err y) (Ok r)) ≡ Ok k
     → (a ≡ true) × (b ≡ false) × (r ≡ k)
 passed true true x y e = impossible (cc)
 passed true false x y e = (refl, refl, cc)
 passed false b x y e = impossible (cc)
 
-module _ (c n m : ℕ) (xs : List ℕ) (rows : ℕ) (h : form_answer c n m xs ≡ Done rows) where
+module _ (c n m : ℕ) (xs : List ℕ) (rows : ℕ) (h : form_answer c n m xs ≡ Ok rows) where
   done : (args_ok c n m (length xs) ≡ true) × (breaks_form c n m xs ≡ false) × (rows_after n (layer_of c m xs) ≡ rows)
   unfolding form_answer
   done =
-      passed (args_ok c n m (length xs)) (breaks_form c n m xs) (refusal 1 0)
-      (refusal 2 (0 + form_place c n (entries_of c m xs))) h
+      passed (args_ok c n m (length xs)) (breaks_form c n m xs) (refusal BadArguments 0)
+      (refusal BadForm (0 + form_place c n (entries_of c m xs))) h
 
   kept : (ltb (form_place c n (entries_of c m xs)) m ≡ false) × (ltb 4096 (rows_after n (layer_of c m xs)) ≡ false)
   unfolding breaks_form
@@ -109,7 +110,7 @@ module _ (c n m : ℕ) (xs : List ℕ) (rows : ℕ) (h : form_answer c n m xs �
       }
 
   pub in_form : InForm c n m xs
-  in_form = h ∙ ap Done accepted.shown
+  in_form = h ∙ ap Ok accepted.shown
 
 pub in_form_by : (c n m : ℕ) (xs : List ℕ) → args_ok c n m (length xs) ≡ true → breaks_form c n m xs ≡ false → InForm c n m xs
 unfolding form_answer

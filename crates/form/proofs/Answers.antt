@@ -6,9 +6,9 @@ use mathlib.Core.Path.{◌≡◌, refl, sym, ap, ◌∙◌}
 use mathlib.Core.Bool.{Bool, true, false, cond, ◌&&◌}
 use mathlib.Core.List.{List, ◌∷◌, ◌++◌}
 use lib.ListN.{length}
+use Rattle.words.specs.declared.Cause.TheVariants.{BadArguments, BadForm}
+use Rattle.std.specs.Prelude.{Ok, Err}
 use Rattle.words.specs.declared.Refusal.{Refusal}
-use Rattle.words.specs.declared.Answer.{Answer}
-use Rattle.words.specs.declared.Answer.TheVariants.{Done, Refused}
 use Rattle.model.specs.Layer.{rows_after}
 use Rattle.model.specs.Raw.{entries_of, layer_of}
 use Rattle.model.specs.Form.{args_ok, form_place}
@@ -30,7 +30,7 @@ module _ {A : Type 0} (refused : Refusal → A) (c n m : ℕ) (xs : List ℕ) (o
   abbrev pub form_call : A
   form_call = first_met refused (form_rows (args_ok c n m (length xs) && own) c n m xs ++ tests) z
 
-  pub own_argument : own ≡ false → refused (refusal 1 0) ≡ form_call
+  pub own_argument : own ≡ false → refused (refusal BadArguments 0) ≡ form_call
   own_argument h = own_refused refused (args_ok c n m (length xs)) own (bad_form 0 c n m xs ∷ tests) z h
 
   pub after_own : own ≡ true → form_call ≡ onward refused (form_answer c n m xs) (first_met refused tests z)
@@ -49,8 +49,8 @@ form_row refused more c n m xs tests z ok = rw ok (by (breaks_form c n m xs))
     p : ℕ
     p = form_place c n (entries_of c m xs)
 
-    by : (b : Bool) → cond b (refused (refusal 2 (more + p))) (first_met refused tests z)
-        ≡ onward (λ x. refused (raised more x)) (cond b (Refused (refusal 2 (0 + p))) (Done (rows_after n (layer_of c m xs))))
+    by : (b : Bool) → cond b (refused (refusal BadForm (more + p))) (first_met refused tests z)
+        ≡ onward (λ x. refused (raised more x)) (cond b (Err (refusal BadForm (0 + p))) (Ok (rows_after n (layer_of c m xs))))
         (first_met refused tests z)
-    by true = ap (λ (k : ℕ). refused (refusal 2 (more + k))) (sym (zero-add p))
+    by true = ap (λ (k : ℕ). refused (refusal BadForm (more + k))) (sym (zero-add p))
     by false = refl

@@ -11,13 +11,14 @@ use mathlib.Core.List.{List, [], ◌∷◌, map, Memᴰ as Mem}
 use lib.ListN.{length}
 use lib.Dec.{ltb}
 use borrow.Author.Tests.{lt-ltb, le-ltb, ltb-true, ltb-false}
+use Rattle.words.specs.declared.Cause.TheVariants.{BadArguments, BadForm}
+use Rattle.std.specs.Prelude.{Ok, Err}
 use Rattle.order.specs.Lists.{one, count}
 use Rattle.order.proofs.Tests.{and_l, and_r}
 use Rattle.order.proofs.Members.{map_mem}
 use Rattle.order.proofs.Counts.{count_le, count_map, count_same}
 use Rattle.order.proofs.Pairs.{AllPairs, Unbroken, unbroken, pairs_map}
 use Rattle.words.specs.declared.Entry.{Entry}
-use Rattle.words.specs.declared.Answer.TheVariants.{Done, Refused}
 use Rattle.model.specs.Layer.{Edit, at, add, strike, change, Layer, position, is_add, is_strike, rows_after}
 use Rattle.model.specs.Raw.{edit_of, entries_at, entries_of, layer_of}
 use Rattle.words.specs.Entry.{ADD, STRIKE}
@@ -90,7 +91,7 @@ count_kind k f h es = sym (count_map edit_of f es ∙ count_same (λ e. f (edit_
 
 -- refusal 1
 pub args_refused : (c n m : ℕ) (xs : List ℕ) → args_ok c n m (length xs) ≡ false
-    → Refused (refusal 1 0) ≡ form_answer c n m xs
+    → Err (refusal BadArguments 0) ≡ form_answer c n m xs
 unfolding form_answer
 args_refused c n m xs h = rw h
 
@@ -98,13 +99,13 @@ args_refused c n m xs h = rw h
 pub record Counted (c n m : ℕ) (xs : List ℕ) (a s : ℕ) : Type 0 where
   pub few_strikes : s ≤ n
   pub base : n ≤ 4096
-  pub total : 4096 + s < n + a → Refused (refusal 2 m) ≡ form_answer c n m xs
-  pub accept : n + a ≤ 4096 + s → Done ((n + a) - s) ≡ form_answer c n m xs
+  pub total : 4096 + s < n + a → Err (refusal BadForm m) ≡ form_answer c n m xs
+  pub accept : n + a ≤ 4096 + s → Ok ((n + a) - s) ≡ form_answer c n m xs
 
 module _ (c n m : ℕ) (xs : List ℕ) (ok : args_ok c n m (length xs) ≡ true) where
   -- refusal 2, at the first entry at fault
   place_refused : (p : ℕ) → p ≡ length (good c n (entries_of c m xs)) → p < m
-      → Refused (refusal 2 p) ≡ form_answer c n m xs
+      → Err (refusal BadForm p) ≡ form_answer c n m xs
   unfolding form_answer breaks_form
   place_refused p e h = rw (ok, ← place c n (entries_of c m xs), ← e, lt-ltb p m h, zero-add)
 
@@ -133,13 +134,13 @@ module _ (c n m : ℕ) (xs : List ℕ) (ok : args_ok c n m (length xs) ≡ true)
         omega (arith, strikes, strikes_few c n (layer_of c m xs) w.formed)
 
     -- refusal 2, for the row total
-    total : 4096 + s < n + a → Refused (refusal 2 m) ≡ form_answer c n m xs
+    total : 4096 + s < n + a → Err (refusal BadForm m) ≡ form_answer c n m xs
     unfolding form_answer breaks_form
     total l =
         let t : 4096 < rows_after n (layer_of c m xs) = omega (arith, adds, strikes) in
         rw (ok, placed, le-ltb m m (omega arith), lt-ltb 4096 (rows_after n (layer_of c m xs)) t, zero-add)
 
-    accept : n + a ≤ 4096 + s → Done ((n + a) - s) ≡ form_answer c n m xs
+    accept : n + a ≤ 4096 + s → Ok ((n + a) - s) ≡ form_answer c n m xs
     unfolding form_answer breaks_form
     accept l =
         let t : rows_after n (layer_of c m xs) ≤ 4096 = omega (arith, adds, strikes) in
@@ -170,16 +171,16 @@ module _ (c n m : ℕ) (xs : List ℕ) (ok : args_ok c n m (length xs) ≡ true)
     judges = by (ltb p m) refl (ltb (4096 + s) (n + a)) refl
       where
         by : (t : Bool) → ltb p m ≡ t → (u : Bool) → ltb (4096 + s) (n + a) ≡ u
-            → cond t (Refused (refusal 2 p)) (cond u (Refused (refusal 2 m)) (Done ((n + a) - s))) ≡ form_answer c n m xs
+            → cond t (Err (refusal BadForm p)) (cond u (Err (refusal BadForm m)) (Ok ((n + a) - s))) ≡ form_answer c n m xs
         by true e u f = place_refused p seen.0 (ltb-true p m e)
         by false e true f = (counted p a s (ltb-false p m e) seen).total (ltb-true (4096 + s) (n + a) f)
         by false e false f = (counted p a s (ltb-false p m e) seen).accept (ltb-false (4096 + s) (n + a) f)
 
 -- an empty layer whose arguments pass is in form, and its rows are those of the base
-pub empty_done : (c n m : ℕ) (xs : List ℕ) → m ≡ 0 → args_ok c n m (length xs) ≡ true → Done n ≡ form_answer c n m xs
+pub empty_done : (c n m : ℕ) (xs : List ℕ) → m ≡ 0 → args_ok c n m (length xs) ≡ true → Ok n ≡ form_answer c n m xs
 unfolding entries_at good_from
 empty_done c n zero xs z ok =
     let k = counted c n 0 xs ok 0 0 0 (omega arith) (refl, refl, refl) in
     let e : n ≡ (n + 0) - 0 = omega arith in
-    ap Done e ∙ k.accept (omega (arith, k.base))
+    ap Ok e ∙ k.accept (omega (arith, k.base))
 empty_done c n (suc m) xs z ok = absurd (omega (arith, z))

@@ -6,7 +6,7 @@ ghost use Rattle.model.specs.Form.{args_ok};
 ghost use Rattle.model.specs.Calls.{form_answer};
 ghost use Rattle.scan.specs.Scan.{Judged, judgement};
 
-use words::{Answer, MOST_COLUMNS, MOST_ENTRIES, MOST_ROWS};
+use words::{Cause, MOST_COLUMNS, MOST_ENTRIES, MOST_ROWS, Refusal};
 
 // The arguments pass refusal 1: c columns, n rows, m entries in a slice of len numbers.
 pub fn args_ok(c: usize, n: usize, m: usize, len: usize) -> bool
@@ -22,41 +22,41 @@ pub fn args_ok(c: usize, n: usize, m: usize, len: usize) -> bool
 }
 
 // What the pass over the entries says of form: the first at fault, else the row total.
-pub fn judge(n: usize, m: usize, s: scan::Scan) -> Answer
+pub fn judge(n: usize, m: usize, s: scan::Scan) -> Result<usize, Refusal>
     requires { Judged n m s.place s.adds s.strikes }
     ensures { result ≡ judgement n m s.place s.adds s.strikes }
 {
     let place = s.place;
     if place < m {
-        return Answer::refused(2, place);
+        return words::refused(Cause::BadForm, place);
     }
     let shown = n + s.adds;
     let most = MOST_ROWS + s.strikes;
     if most < shown {
-        return Answer::refused(2, m);
+        return words::refused(Cause::BadForm, m);
     }
-    Answer::Done(shown - s.strikes)
+    Ok(shown - s.strikes)
 }
 
 // The check behind every call: arguments and form. The result is the number of rows after the layer.
-pub fn check(c: usize, n: usize, m: usize, layer: &[u64]) -> Answer
+pub fn check(c: usize, n: usize, m: usize, layer: &[u64]) -> Result<usize, Refusal>
     ensures { result ≡ form_answer c n m layer.now }
 {
     if !args_ok(c, n, m, layer.len()) {
-        return Answer::refused(1, 0);
+        return words::refused(Cause::BadArguments, 0);
     }
     judge(n, m, scan::scan_layer(c, n, m, layer))
 }
 
 // The same check, for calls that are made of empty layers too: such a layer has only its arguments to check, which spares it the pass over entries.
-pub fn check_layer(c: usize, n: usize, m: usize, layer: &[u64]) -> Answer
+pub fn check_layer(c: usize, n: usize, m: usize, layer: &[u64]) -> Result<usize, Refusal>
     ensures { result ≡ form_answer c n m layer.now }
 {
     if m == 0 {
         if args_ok(c, n, m, layer.len()) {
-            return Answer::Done(n);
+            return Ok(n);
         }
-        return Answer::refused(1, 0);
+        return words::refused(Cause::BadArguments, 0);
     }
     check(c, n, m, layer)
 }

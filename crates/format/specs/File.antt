@@ -1,9 +1,9 @@
 -- A layer in a file: a note of 0 to 256 bytes, the entries as numbers of eight bytes, and a trailer of four such numbers.
-use Rattle.std.specs.Prelude.{Bool, not, ◌||◌, List, [], ◌∷◌, ◌++◌, ℕ, ◌+◌, ◌-◌, ◌*◌, ◌≤◌, length, ltb, eqb}
+use Rattle.words.specs.declared.Cause.TheVariants.{ShortBuffer, BadFile}
+use Rattle.words.specs.Answer.{Answer}
+use Rattle.std.specs.Prelude.{Bool, not, ◌||◌, List, [], ◌∷◌, ◌++◌, ℕ, ◌+◌, ◌-◌, ◌*◌, ◌≤◌, length, ltb, eqb, Ok, Err}
 use Rattle.little.specs.Little.{number_at, numbers_at, eights}
 use Rattle.words.specs.declared.Entry.{Entry}
-use Rattle.words.specs.declared.Answer.{Answer}
-use Rattle.words.specs.declared.Answer.TheVariants.{Done, Refused}
 use Rattle.model.specs.Limits.{most_columns, most_entries}
 use Rattle.model.specs.Layer.{Layer}
 use Rattle.model.specs.Raw.{layer_of, flat}
@@ -58,20 +58,20 @@ misfits f =
 -- the refusals of a file, in their order
 abbrev pub file_rows : List ℕ → List Test
 file_rows f =
-    refuse 12 0 (ltb (length f) trailer_bytes)
+    refuse BadFile 0 (ltb (length f) trailer_bytes)
     ∷ bad_args (args_ok (columns f) (rows f) (entries f) (width (columns f) (entries f)))
-    ∷ refuse 12 0 (misfits f)
+    ∷ refuse BadFile 0 (misfits f)
     ∷ bad_form 0 (columns f) (rows f) (entries f) (layer_numbers f)
     ∷ []
 
 -- the check: the number of entries
 unfoldable pub file_answer : List ℕ → Answer
-file_answer f = first_met Refused (file_rows f) (Done (entries f))
+file_answer f = first_met Err (file_rows f) (Ok (entries f))
 
 -- the reader, into a slice of len numbers: the number of entries, and the slice afterwards
 unfoldable pub load_answer : List ℕ → ℕ → Answer
 load_answer f len =
-    first_met Refused (file_rows f ++ (refuse 11 0 (ltb len (width (columns f) (entries f))) ∷ [])) (Done (entries f))
+    first_met Err (file_rows f ++ (refuse ShortBuffer 0 (ltb len (width (columns f) (entries f))) ∷ [])) (Ok (entries f))
 
 abbrev pub load_slice : List ℕ → List ℕ → List ℕ
 load_slice f old = written (load_answer f (length old)) (layer_numbers f) old
@@ -79,16 +79,16 @@ load_slice f old = written (load_answer f (length old)) (layer_numbers f) old
 -- the writer, into len bytes: the number of bytes, and the bytes afterwards
 unfoldable pub save_answer : ℕ → ℕ → ℕ → List ℕ → ℕ → Answer
 save_answer c n m raw len =
-    first_met Refused (form_rows (args_ok c n m (length raw)) c n m raw ++ (refuse 11 0 (ltb len (reach c m)) ∷ []))
-    (Done (reach c m))
+    first_met Err (form_rows (args_ok c n m (length raw)) c n m raw ++ (refuse ShortBuffer 0 (ltb len (reach c m)) ∷ []))
+    (Ok (reach c m))
 
 abbrev pub save_slice : ℕ → ℕ → ℕ → List ℕ → List ℕ → List ℕ
 save_slice c n m raw old = written (save_answer c n m raw (length old)) (saved c n (layer_of c m raw)) old
 
 -- what a reader asks of an accepted file before it lends a slice; 0 of a refused one
 abbrev pub if_done : Answer → ℕ → ℕ
-if_done (Done k) v = v
-if_done (Refused x) v = 0
+if_done (Ok k) v = v
+if_done (Err x) v = 0
 
 abbrev pub entries_in : List ℕ → ℕ
 entries_in f = if_done (file_answer f) (entries f)

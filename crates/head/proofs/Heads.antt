@@ -14,7 +14,10 @@ use Rattle.model.specs.Cell.{to, agree}
 use Rattle.model.specs.Raw.{column_of, edit_of}
 use Rattle.words.specs.Entry.{ADD, STRIKE}
 use Rattle.model.specs.Edits.{before}
-use Rattle.model.specs.Conflict.{Rule, none, struck_row, same_cell, same_key, clash, met, rule_number}
+use Rattle.std.specs.Prelude.{Option, Some, None}
+use Rattle.words.specs.declared.Rule.{Rule}
+use Rattle.words.specs.declared.Rule.TheVariants.{StruckRow as struck_row, SameCell as same_cell, SameKey as same_key}
+use Rattle.model.specs.Conflict.{clash}
 use Rattle.theory.proofs.Edits.{before_key, deed_by, by_kinds}
 use Rattle.theory.proofs.Conflict.{clash_sym}
 use Rattle.head.specs.declared.Head.{Head}
@@ -53,18 +56,7 @@ clash_head d e = by_key (clash d) (λ s q r k. level s q r d k) e
 pub head_clash : (d : Entry) (e : Edit) → clash (seen (head_of d)) e ≡ clash (edit_of d) e
 head_clash d e = clash_sym (seen (head_of d)) e ∙ (clash_head e d ∙ clash_sym e (edit_of d))
 
--- a rule is met where its number is not 0
-pub met_number : (r : Rule) → not (eqb (rule_number r) 0) ≡ met r
-met_number none = refl
-met_number struck_row = refl
-met_number same_cell = refl
-met_number same_key = refl
-
-number : (t : Bool) (r : Rule) → rule_number (cond t r none) ≡ cond t (rule_number r) 0
-number true r = refl
-number false r = refl
-
-cell : (s t u : Bool) → rule_number (cond (s && (t && not u)) same_cell none) ≡ cond s (cond t (cond u 0 2) 0) 0
+cell : (s t u : Bool) → cond (s && (t && not u)) (Some same_cell) None ≡ cond s (cond t (cond u None (Some same_cell)) None) None
 cell true true true = refl
 cell true true false = refl
 cell true false u = refl
@@ -72,75 +64,77 @@ cell false t u = refl
 
 -- conflict by tests of the kinds
 pub clash_kinds : (a b x y : Bool) (u v q k p s : ℕ)
-    → rule_number (clash (at p (deed_by a b (u ∷ []) u q)) (at s (deed_by x y (v ∷ []) v k)))
-    ≡ cond (a && x) (cond (eqb u v) 3 0) (cond (a || x) 0
-    (cond (eqb p s) (cond (b || y) 1 (cond (eqb q k) (cond (agree (to u) (to v)) 0 2) 0)) 0))
+    → clash (at p (deed_by a b (u ∷ []) u q)) (at s (deed_by x y (v ∷ []) v k))
+    ≡ cond (a && x) (cond (eqb u v) (Some same_key) None) (cond (a || x) None
+    (cond (eqb p s) (cond (b || y) (Some struck_row)
+    (cond (eqb q k) (cond (agree (to u) (to v)) None (Some same_cell)) None)) None))
 unfolding key
-clash_kinds true b true y u v q k p s = number (eqb u v) same_key
+clash_kinds true b true y u v q k p s = refl
 clash_kinds true b false true u v q k p s = refl
 clash_kinds true b false false u v q k p s = refl
 clash_kinds false true true y u v q k p s = refl
 clash_kinds false false true y u v q k p s = refl
-clash_kinds false true false true u v q k p s = number (eqb p s) struck_row
-clash_kinds false true false false u v q k p s = number (eqb p s) struck_row
-clash_kinds false false false true u v q k p s = number (eqb p s) struck_row
+clash_kinds false true false true u v q k p s = refl
+clash_kinds false true false false u v q k p s = refl
+clash_kinds false false false true u v q k p s = refl
 clash_kinds false false false false u v q k p s = cell (eqb p s) (eqb q k) (agree (to u) (to v))
 
 -- the rule that two heads meet, test by test
 module _ (d e : Head) where
-  abbrev number_met : ℕ
-  number_met = rule_number (clash (seen d) (seen e))
+  abbrev rule : Option Rule
+  rule = clash (seen d) (seen e)
 
-  rule_by : number_met
-      ≡ cond (eqb d.kind ADD && eqb e.kind ADD) (cond (eqb d.first e.first) 3 0)
-      (cond (eqb d.kind ADD || eqb e.kind ADD) 0
+  rule_by : rule
+      ≡ cond (eqb d.kind ADD && eqb e.kind ADD) (cond (eqb d.first e.first) (Some same_key) None)
+      (cond (eqb d.kind ADD || eqb e.kind ADD) None
       (cond (eqb d.pos e.pos)
-      (cond (eqb d.kind STRIKE || eqb e.kind STRIKE) 1
-      (cond (eqb (column_of d.kind) (column_of e.kind)) (cond (agree (cell_of d) (cell_of e)) 0 2) 0)) 0))
+      (cond (eqb d.kind STRIKE || eqb e.kind STRIKE) (Some struck_row)
+      (cond (eqb (column_of d.kind) (column_of e.kind)) (cond (agree (cell_of d) (cell_of e)) None (Some same_cell)) None))
+      None))
   rule_by =
       clash_kinds (eqb d.kind ADD) (eqb d.kind STRIKE) (eqb e.kind ADD) (eqb e.kind STRIKE) d.first
       e.first d.kind e.kind d.pos e.pos
 
   module _ (both : (eqb d.kind ADD && eqb e.kind ADD) ≡ true) where
-    pub one_key : d.first ≡ e.first → 3 ≡ number_met
+    pub one_key : d.first ≡ e.first → Some same_key ≡ rule
     one_key h = rw (rule_by, both, eq-eqb d.first e.first h)
 
-    pub two_keys : (d.first ≡ e.first → ⊥) → 0 ≡ number_met
+    pub two_keys : (d.first ≡ e.first → ⊥) → None ≡ rule
     two_keys h = rw (rule_by, both, ne_eqb d.first e.first h)
 
   module _ (some : (eqb d.kind ADD && eqb e.kind ADD) ≡ false) where
-    pub one_adds : (eqb d.kind ADD || eqb e.kind ADD) ≡ true → 0 ≡ number_met
+    pub one_adds : (eqb d.kind ADD || eqb e.kind ADD) ≡ true → None ≡ rule
     one_adds h = rw (rule_by, some, h)
 
     module _ (none_adds : (eqb d.kind ADD || eqb e.kind ADD) ≡ false) where
-      pub two_rows : (d.pos ≡ e.pos → ⊥) → 0 ≡ number_met
+      pub two_rows : (d.pos ≡ e.pos → ⊥) → None ≡ rule
       two_rows h = rw (rule_by, some, none_adds, ne_eqb d.pos e.pos h)
 
       module _ (one-row : d.pos ≡ e.pos) where
-        pub row_struck : (eqb d.kind STRIKE || eqb e.kind STRIKE) ≡ true → 1 ≡ number_met
+        pub row_struck : (eqb d.kind STRIKE || eqb e.kind STRIKE) ≡ true → Some struck_row ≡ rule
         row_struck h = rw (rule_by, some, none_adds, eq-eqb d.pos e.pos one-row, h)
 
         module _ (kept : (eqb d.kind STRIKE || eqb e.kind STRIKE) ≡ false) where
-          abbrev by_cell : Bool → ℕ
-          by_cell t = cond t (cond (agree (cell_of d) (cell_of e)) 0 2) 0
+          abbrev by_cell : Bool → Option Rule
+          by_cell t = cond t (cond (agree (cell_of d) (cell_of e)) None (Some same_cell)) None
 
-          cells : by_cell (eqb (column_of d.kind) (column_of e.kind)) ≡ number_met
+          cells : by_cell (eqb (column_of d.kind) (column_of e.kind)) ≡ rule
           cells = rw (rule_by, some, none_adds, eq-eqb d.pos e.pos one-row, kept)
 
-          pub two_cells : (column_of d.kind ≡ column_of e.kind → ⊥) → 0 ≡ number_met
+          pub two_cells : (column_of d.kind ≡ column_of e.kind → ⊥) → None ≡ rule
           two_cells h = rw (ne_eqb (column_of d.kind) (column_of e.kind) h) at cells
 
           module _ (one-column : column_of d.kind ≡ column_of e.kind) where
-            abbrev by_edits : Bool → ℕ
-            by_edits u = cond u 0 2
+            abbrev by_edits : Bool → Option Rule
+            by_edits u = cond u None (Some same_cell)
 
-            edits : by_edits (agree (cell_of d) (cell_of e)) ≡ number_met
+            edits : by_edits (agree (cell_of d) (cell_of e)) ≡ rule
             edits = rw (eq-eqb (column_of d.kind) (column_of e.kind) one-column) at cells
 
-            pub agreed : agree (cell_of d) (cell_of e) ≡ true → 0 ≡ number_met
+            pub agreed : agree (cell_of d) (cell_of e) ≡ true → None ≡ rule
             agreed h = sym (ap by_edits h) ∙ edits
 
-            pub one_cell : agree (cell_of d) (cell_of e) ≡ false → 2 ≡ number_met
+            pub one_cell : agree (cell_of d) (cell_of e) ≡ false → Some same_cell ≡ rule
             one_cell h = sym (ap by_edits h) ∙ edits
 
 pub before_by : (d e : Head) → (ltb d.pos e.pos || (eqb d.pos e.pos

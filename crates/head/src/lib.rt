@@ -5,10 +5,10 @@ ghost use Rattle.std.specs.Prelude.{◌≡◌};
 ghost use Rattle.model.specs.Raw.{column_of};
 ghost use Rattle.model.specs.Cell.{agree};
 ghost use Rattle.model.specs.Edits.{before};
-ghost use Rattle.model.specs.Conflict.{clash, rule_number};
+ghost use Rattle.model.specs.Conflict.{clash};
 ghost use Rattle.head.specs.Head.{seen, cell_of};
 
-use words::Entry;
+use words::{Entry, Rule};
 
 // The head of an entry: its position, its kind and its first value, which is an add's or a strike's key.
 #[derive(Clone, Copy)]
@@ -48,24 +48,32 @@ pub fn agrees(mine: Head, theirs: Head) -> bool
     mine.first == theirs.first
 }
 
-// The rule that two entries of one base meet: 1 a struck row, 2 a cell that both change, to different values, 3 a key that both add, 0 none.
-pub fn rule_met(mine: Head, theirs: Head) -> u64
-    ensures { result ≡ rule_number (clash (seen mine) (seen theirs)) }
+// The rule of conflict that two entries of one base meet, where they meet one.
+pub fn rule_met(mine: Head, theirs: Head) -> Option<Rule>
+    ensures { result ≡ clash (seen mine) (seen theirs) }
 {
     if (mine.kind == Entry::ADD) & (theirs.kind == Entry::ADD) {
-        return if mine.first == theirs.first { 3 } else { 0 };
+        return if mine.first == theirs.first {
+            Some(Rule::SameKey)
+        } else {
+            None
+        };
     }
     if (mine.kind == Entry::ADD) | (theirs.kind == Entry::ADD) {
-        return 0;
+        return None;
     }
     if mine.pos != theirs.pos {
-        return 0;
+        return None;
     }
     if (mine.kind == Entry::STRIKE) | (theirs.kind == Entry::STRIKE) {
-        return 1;
+        return Some(Rule::StruckRow);
     }
     if column_of(mine.kind) != column_of(theirs.kind) {
-        return 0;
+        return None;
     }
-    if agrees(mine, theirs) { 0 } else { 2 }
+    if agrees(mine, theirs) {
+        None
+    } else {
+        Some(Rule::SameCell)
+    }
 }

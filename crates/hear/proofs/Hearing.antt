@@ -7,7 +7,8 @@ use Prim.Native.Nat.{ℕ, ◌*◌, ◌≤◌}
 use lib.ListN.{length, take}
 use lib.Seq.{take-take}
 use lib.Dec.{leb}
-use Rattle.words.specs.declared.Answer.{Answer}
+use Rattle.std.specs.Prelude.{Option, Some, None}
+use Rattle.words.specs.Answer.{Answer}
 use Rattle.model.specs.Row.{columnwise}
 use Rattle.model.specs.Raw.{layer_of}
 use Rattle.model.specs.Edits.{renumber_row}
@@ -22,7 +23,7 @@ use Rattle.model.specs.Calls.{
   renumber_over,
 }
 use Rattle.line.specs.declared.Line.{Line}
-use Rattle.line.specs.declared.Line.TheVariants.{Base, Add, Strike, Change, Renumber, Unreadable}
+use Rattle.line.specs.declared.Line.TheVariants.{Base, Add, Strike, Change, Renumber}
 use Rattle.text.specs.declared.Said.TheVariants.{Unread}
 use Rattle.base.specs.declared.Counts.{Counts}
 use Rattle.base.specs.declared.Reply.{Reply}
@@ -32,16 +33,16 @@ use Rattle.hear.specs.Heard.{heard, after, Heard}
 use Rattle.hear.proofs.Rows.{lent_rows, lent_whole}
 
 -- a line heard as what it says
-pub heard_as : {l k : Line} {d : Counts} {x x' : Sheet} {r : Reply} → Heard k d x r x' → l ≡ k → Heard l d x r x'
+pub heard_as : {l k : Option Line} {d : Counts} {x x' : Sheet} {r : Reply} → Heard k d x r x' → l ≡ k → Heard l d x r x'
 heard_as h e = rw e h
 
 -- a base row
-pub heard_base : {g s m : ℕ} {d : Counts} {x x' : Sheet} {r : Reply} → Based g s m d x r x' → Heard (Base g s m) d x r x'
+pub heard_base : {g s m : ℕ} {d : Counts} {x x' : Sheet} {r : Reply} → Based g s m d x r x' → Heard (Some (Base g s m)) d x r x'
 unfolding heard after
 heard_base b = record { reply = b.reply; sheet = b.sheet }
 
 -- a line that says nothing that can be read
-pub heard_none : {d : Counts} {x : Sheet} {r : Reply} → r ≡ stay d Unread → Heard Unreadable d x r x
+pub heard_none : {d : Counts} {x : Sheet} {r : Reply} → r ≡ stay d Unread → Heard None d x r x
 unfolding heard after
 heard_none e = record { reply = e; sheet = refl }
 
@@ -56,19 +57,19 @@ module _ (d : Counts) (table layer layer' : List ℕ) (a : Answer) (r : Reply) (
 
   pub heard_add : (g s m : ℕ) → a ≡ add_answer 3 d.entries layer K (g ∷ s ∷ m ∷ []) →
       layer' ≡ add_slice 3 d.entries layer K (g ∷ s ∷ m ∷ []) →
-      Heard (Add g s m) d (sheet_of table layer) r (sheet_of table layer')
+      Heard (Some (Add g s m)) d (sheet_of table layer) r (sheet_of table layer')
   unfolding heard after
   heard_add g s m e w = record { reply = rw (keys, ← e) told; sheet = rw (keys, w) }
 
   pub heard_strike : (i : ℕ) → a ≡ strike_answer 3 d.entries layer K i →
       layer' ≡ strike_slice 3 d.entries layer K i →
-      Heard (Strike i) d (sheet_of table layer) r (sheet_of table layer')
+      Heard (Some (Strike i)) d (sheet_of table layer) r (sheet_of table layer')
   unfolding heard after
   heard_strike i e w = record { reply = rw (keys, ← e) told; sheet = rw (keys, w) }
 
   pub heard_change : (i j v : ℕ) → a ≡ change_answer 3 d.entries layer K i j v →
       layer' ≡ change_slice 3 d.entries layer K i j v →
-      Heard (Change i j v) d (sheet_of table layer) r (sheet_of table layer')
+      Heard (Some (Change i j v)) d (sheet_of table layer) r (sheet_of table layer')
   unfolding heard after
   heard_change i j v e w = record { reply = rw (keys, ← e) told; sheet = rw (keys, w) }
 
@@ -77,7 +78,7 @@ module _ (d : Counts) (table layer layer' : List ℕ) (a : Answer) (r : Reply) (
       let T = columnwise 3 d.rows most_base table in
       let answer = renumber_over (leb d.rows most_base && leb (3 * most_base) (length table)) 3 d.entries layer T i g in
       a ≡ answer → layer' ≡ edited 3 d.entries answer (renumber_row T i g (layer_of 3 d.entries layer)) layer →
-      Heard (Renumber i g) d (sheet_of table layer) r (sheet_of table layer')
+      Heard (Some (Renumber i g)) d (sheet_of table layer) r (sheet_of table layer')
   unfolding heard after
   heard_renumber i g size e w =
       let rows = lent_rows d.rows table few size in

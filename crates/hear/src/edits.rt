@@ -1,5 +1,5 @@
 // The four edits.
-ghost use Rattle.std.specs.Prelude.{◌≤◌, ◌<◌};
+ghost use Rattle.std.specs.Prelude.{◌≤◌, ◌<◌, Some};
 ghost use Rattle.line.specs.declared.Line.TheVariants.{Add, Strike, Change, Renumber};
 ghost use Rattle.base.specs.Base.{most_base, sheet_of};
 ghost use Rattle.hear.specs.Heard.{Heard};
@@ -17,7 +17,7 @@ pub fn add_row(
 ) -> Reply
     requires { (counts.rows ≤ most_base) × (counts.lines < 9223372036854775808) }
     ensures { let T = table.now in
-        Heard (Add g s m) counts (sheet_of T layer.old) result (sheet_of T layer.new) }
+        Heard (Some (Add g s m)) counts (sheet_of T layer.old) result (sheet_of T layer.new) }
 {
     let row = [g, s, m];
     let n = counts.rows;
@@ -30,7 +30,7 @@ pub fn add_row(
 pub fn strike_row(counts: Counts, r: u64, table: &[u64; 1536], layer: &mut [u64; 2560]) -> Reply
     requires { (counts.rows ≤ most_base) × (counts.lines < 9223372036854775808) }
     ensures { let T = table.now in
-        Heard (Strike r) counts (sheet_of T layer.old) result (sheet_of T layer.new) }
+        Heard (Some (Strike r)) counts (sheet_of T layer.old) result (sheet_of T layer.new) }
 {
     let n = counts.rows;
     let numbers = &table[..];
@@ -49,7 +49,7 @@ pub fn change_row(
 ) -> Reply
     requires { (counts.rows ≤ most_base) × (counts.lines < 9223372036854775808) }
     ensures { let T = table.now in
-        Heard (Change r j v) counts (sheet_of T layer.old) result (sheet_of T layer.new) }
+        Heard (Some (Change r j v)) counts (sheet_of T layer.old) result (sheet_of T layer.new) }
 {
     let n = counts.rows;
     let numbers = &table[..];
@@ -75,7 +75,7 @@ pub fn renumber_row(
 ) -> Reply
     requires { (counts.rows ≤ most_base) × (counts.lines < 9223372036854775808) }
     ensures { let T = table.now in
-        Heard (Renumber r g) counts (sheet_of T layer.old) result (sheet_of T layer.new) }
+        Heard (Some (Renumber r g)) counts (sheet_of T layer.old) result (sheet_of T layer.new) }
 {
     let n = counts.rows;
     let answer = renumber::renumber_apart(3, n, 512, counts.entries, layer, table, r as usize, g);

@@ -19,11 +19,11 @@ pub fn hear(counts: Counts, bytes: &[u8], table: &mut [u64; 1536], layer: &mut [
         result (sheet_of table.new layer.new) }
 {
     match line::parse(bytes) {
-        Line::Base(g, s, m) => base::base_row(counts, g, s, m, table),
-        Line::Add(g, s, m) => edits::add_row(counts, g, s, m, table, layer),
-        Line::Strike(r) => edits::strike_row(counts, r, table, layer),
-        Line::Change(r, j, v) => edits::change_row(counts, r, j, v, table, layer),
-        Line::Renumber(r, g) => edits::renumber_row(counts, r, g, table, layer),
-        Line::Unreadable => base::stay(counts, Said::Unread),
+        Some(Line::Base(g, s, m)) => base::base_row(counts, g, s, m, table),
+        Some(Line::Add(g, s, m)) => edits::add_row(counts, g, s, m, table, layer),
+        Some(Line::Strike(r)) => edits::strike_row(counts, r, table, layer),
+        Some(Line::Change(r, j, v)) => edits::change_row(counts, r, j, v, table, layer),
+        Some(Line::Renumber(r, g)) => edits::renumber_row(counts, r, g, table, layer),
+        None => base::stay(counts, Said::Unread),
     }
 }

@@ -10,11 +10,12 @@ use lib.ListN.{length, take, set, length-append}
 use lib.Seq.{take_all, take-take, take-append-le, take-suc-set, length-take-le}
 use lib.Dec.{leb}
 use borrow.Author.Tests.{eq-eqb, ne_eqb, leb-false}
+use Rattle.words.specs.declared.Cause.TheVariants.{KeysUnordered}
+use Rattle.words.specs.Answer.{Answer}
+use Rattle.std.specs.Prelude.{Option, Some, None, Ok, Err}
 use Rattle.order.proofs.Tests.{or_false}
-use Rattle.words.specs.declared.Answer.{Answer}
-use Rattle.words.specs.declared.Answer.TheVariants as answer
 use Rattle.line.specs.declared.Line.{Line}
-use Rattle.line.specs.declared.Line.TheVariants.{Base, Add, Strike, Change, Renumber, Unreadable}
+use Rattle.line.specs.declared.Line.TheVariants.{Base, Add, Strike, Change, Renumber}
 use Rattle.line.specs.Line.{line_of}
 use Rattle.base.specs.declared.Counts.{Counts}
 use Rattle.base.specs.declared.Reply.{Reply}
@@ -45,29 +46,29 @@ keep_more line kept b e h =
 -- a line is counted, and no more than 512 base rows stand after it
 heard_entered : (d : Counts) (a : Answer) → d.rows ≤ most_base →
     ((entered d a).counts.rows ≤ most_base) × ((entered d a).counts.lines ≡ d.lines + 1)
-heard_entered d (answer.Done k) h = (h, refl)
-heard_entered d (answer.Refused q) h = (h, refl)
+heard_entered d (Ok k) h = (h, refl)
+heard_entered d (Err q) h = (h, refl)
 
 heard_base : (d : Counts) (g : ℕ) (K : List ℕ) → d.rows ≤ most_base →
     ((base_reply g d K).counts.rows ≤ most_base) × ((base_reply g d K).counts.lines ≡ d.lines + 1)
 heard_base d g K h = go (shut d) (below_last g d.rows K) refl
   where
     go : (t u : Bool) → shut d ≡ t →
-        ((cond t (stay d Unread) (cond u (stay d (Refused 3)) (grown d))).counts.rows ≤ most_base)
-        × ((cond t (stay d Unread) (cond u (stay d (Refused 3)) (grown d))).counts.lines ≡ d.lines + 1)
+        ((cond t (stay d Unread) (cond u (stay d (Refused KeysUnordered)) (grown d))).counts.rows ≤ most_base)
+        × ((cond t (stay d Unread) (cond u (stay d (Refused KeysUnordered)) (grown d))).counts.lines ≡ d.lines + 1)
     go true u e = (h, refl)
     go false true e = (h, refl)
     go false false e = (omega (arith, leb-false most_base d.rows (or_false d.edited (leb most_base d.rows) e).1), refl)
 
-pub heard_counts : (l : Line) (d : Counts) (x : Sheet) → d.rows ≤ most_base →
+pub heard_counts : (l : Option Line) (d : Counts) (x : Sheet) → d.rows ≤ most_base →
     ((heard l d x).counts.rows ≤ most_base) × ((heard l d x).counts.lines ≡ d.lines + 1)
 unfolding heard
-heard_counts (Base g s m) d x h = heard_base d g x.keys h
-heard_counts (Add g s m) d x h = heard_entered d (added d x (g ∷ s ∷ m ∷ [])) h
-heard_counts (Strike r) d x h = heard_entered d (struck d x r) h
-heard_counts (Change r j v) d x h = heard_entered d (changed d x r j v) h
-heard_counts (Renumber r g) d x h = heard_entered d (renumbered d x r g) h
-heard_counts Unreadable d x h = (h, refl)
+heard_counts (Some (Base g s m)) d x h = heard_base d g x.keys h
+heard_counts (Some (Add g s m)) d x h = heard_entered d (added d x (g ∷ s ∷ m ∷ [])) h
+heard_counts (Some (Strike r)) d x h = heard_entered d (struck d x r) h
+heard_counts (Some (Change r j v)) d x h = heard_entered d (changed d x r j v) h
+heard_counts (Some (Renumber r g)) d x h = heard_entered d (renumbered d x r g) h
+heard_counts None d x h = (h, refl)
 
 -- a line ended
 pub ended : (f : Feed) (x x' : Sheet) (line out out' : List ℕ) (s : Reply) (q : ℕ) → f.counts.rows ≤ most_base →

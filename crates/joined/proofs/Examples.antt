@@ -8,8 +8,8 @@ use native.Mathlib.Omega.{arith}
 use lib.ListN.{length, drop}
 use lib.Dec.{ltb}
 use borrow.Author.Tests.{le-ltb}
-use Rattle.words.specs.declared.Answer.{Answer}
-use Rattle.words.specs.declared.Answer.TheVariants.{Done}
+use Rattle.words.specs.Answer.{Answer}
+use Rattle.std.specs.Prelude.{Ok}
 use Rattle.model.specs.Row.{key, keys}
 use Rattle.model.specs.Cell.{put}
 use Rattle.model.specs.Layer.{Layer}
@@ -32,7 +32,7 @@ abbrev layer_from : Layer → Layer → Layer
 layer_from R W = combined_layer 2 (keys four) (length R) (flat 2 R) (length W) (flat 2 W)
 
 abbrev Goes : Layer → Layer → Layer → Type 0
-Goes R W L = (length L ≤ 512) × ((len : ℕ) → ltb (room 2 len) (length L) ≡ false → answer_of R W len ≡ Done (length L))
+Goes R W L = (length L ≤ 512) × ((len : ℕ) → ltb (room 2 len) (length L) ≡ false → answer_of R W len ≡ Ok (length L))
     × (layer_from R W ≡ L)
 
 -- a slice of so many numbers has room for the entries

@@ -12,10 +12,10 @@ use borrow.Author.Tests.{le-leb}
 use contract.Lifetimes.{Lfts}
 use denote.Triple.Clauses.{AtExit}
 use borrow.Fn.Kinds.{Dens, ended_of}
+use Rattle.words.specs.Answer.{Answer}
+use Rattle.std.specs.Prelude.{Ok}
 use Rattle.order.proofs.Pairs.{AllPairs, pairs_weaker}
 use Rattle.order.proofs.Ascending.{AscFrom, asc_of}
-use Rattle.words.specs.declared.Answer.{Answer}
-use Rattle.words.specs.declared.Answer.TheVariants.{Done}
 use Rattle.model.specs.Limits.{most_rows}
 use Rattle.model.specs.Row.{Table, key, keys, column}
 use Rattle.model.specs.Layer.{Edit, Layer, rows_after}
@@ -57,7 +57,7 @@ combine_unique c K mR rawR mW rawW out a b out' new o p =
     (o.0 ∙ sym p.0, o.1 ∙ sym p.1)
 
 module _ (c : ℕ) (T : Table) (mR : ℕ) (rawR : List ℕ) (mW : ℕ) (rawW out : List ℕ) (a : Answer) (out' : List ℕ)
-    (o : Combined c (keys T) mR rawR mW rawW out a out') (m : ℕ) (done : a ≡ Done m) where
+    (o : Combined c (keys T) mR rawR mW rawW out a out') (m : ℕ) (done : a ≡ Ok m) where
   abbrev K : List ℕ
   K = keys T
 

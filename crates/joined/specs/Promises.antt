@@ -1,7 +1,6 @@
 -- What is promised of combining, over every outcome that the call's contract allows.
-use Rattle.std.specs.Prelude.{◌≡◌, true, List, [], ◌∷◌, ◌++◌, ℕ, ◌*◌, ◌+◌, ◌≤◌, ◌<◌, length, drop}
-use Rattle.words.specs.declared.Answer.{Answer}
-use Rattle.words.specs.declared.Answer.TheVariants.{Done}
+use Rattle.words.specs.Answer.{Answer}
+use Rattle.std.specs.Prelude.{◌≡◌, true, List, [], ◌∷◌, ◌++◌, ℕ, ◌*◌, ◌+◌, ◌≤◌, ◌<◌, length, drop, Ok}
 use Rattle.model.specs.Row.{Table, column, keys}
 use Rattle.model.specs.Layer.{Layer}
 use Rattle.model.specs.Raw.{layer_of, flat}
@@ -23,7 +22,7 @@ pub record Left (c : ℕ) (T : Table) (R W : Layer) (m : ℕ) (out out' : List �
   pub holds : layer_of c m out' ≡ combine (keys T) R W
   pub formed : keeps_form c (length T) (layer_of c m out') ≡ true
   pub fitted : fits (keys T) (layer_of c m out') ≡ true
-  pub again : fit_answer c m out' (keys T) ≡ Done 0
+  pub again : fit_answer c m out' (keys T) ≡ Ok 0
   pub reads : read T (layer_of c m out') ≡ read (read T R) W
   pub behind : drop (m * (c + 2)) out' ≡ drop (m * (c + 2)) out
 
@@ -36,7 +35,7 @@ ColumnReads c m T R W out' =
 abbrev pub CombinesTo : Layer → Layer → Layer → Type 0
 CombinesTo R W L = (out : List ℕ) (a : Answer) (out' : List ℕ) → length L * 4 ≤ length out
     → Combined 2 (keys four) (length R) (flat 2 R) (length W) (flat 2 W) out a out'
-    → (a ≡ Done (length L)) × (out' ≡ flat 2 L ++ drop (length (flat 2 L)) out)
+    → (a ≡ Ok (length L)) × (out' ≡ flat 2 L ++ drop (length (flat 2 L)) out)
 
 -- what the lines of a table of examples say of the call; E12 and one of request 2's are the lines of the last kind
 abbrev pub EachOfCall : List Example → Type 0

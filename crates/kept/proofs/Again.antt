@@ -8,8 +8,9 @@ use lib.ListN.{length, take, drop}
 use lib.Seq.{take_at, length-take-le}
 use lib.Dec.{ltb}
 use borrow.Author.Tests.{ltb-false}
-use Rattle.words.specs.declared.Answer.{Answer}
-use Rattle.words.specs.declared.Answer.TheVariants.{Done, Refused}
+use Rattle.words.specs.declared.Cause.TheVariants.{ShortBuffer}
+use Rattle.words.specs.Answer.{Answer}
+use Rattle.std.specs.Prelude.{Ok, Err}
 use Rattle.little.proofs.Numbers.{Words, take_mem}
 use Rattle.model.specs.Layer.{Layer, rows_after}
 use Rattle.model.specs.Raw.{layer_of, flat}
@@ -49,22 +50,22 @@ use Rattle.kept.proofs.Exactly.{
 
 -- save was given a slice of 64-bit numbers, and answered b bytes
 module _ (c n m : ℕ) (raw : List ℕ) (words : Words raw) (old : List ℕ) (b : ℕ)
-    (e : save_answer c n m raw (length old) ≡ Done b) where
+    (e : save_answer c n m raw (length old) ≡ Ok b) where
   abbrev L : Layer
   L = layer_of c m raw
 
-  gone : (l : ℕ) × (form_answer c n m raw ≡ Done l)
-      × (first_met Refused (refuse 11 0 (ltb (length old) (reach c m)) ∷ []) (Done (reach c m)) ≡ Done b)
+  gone : (l : ℕ) × (form_answer c n m raw ≡ Ok l)
+      × (first_met Err (refuse ShortBuffer 0 (ltb (length old) (reach c m)) ∷ []) (Ok (reach c m)) ≡ Ok b)
   unfolding save_answer
   gone =
       reached (form_answer c n m raw)
-      (sym (after_form_lem Refused c n m raw (refuse 11 0 (ltb (length old) (reach c m)) ∷ []) (Done (reach c m))) ∙ e)
+      (sym (after_form_lem Err c n m raw (refuse ShortBuffer 0 (ltb (length old) (reach c m)) ∷ []) (Ok (reach c m))) ∙ e)
 
   took : form.Accepted c n m raw gone.0
   took = form.accepted c n m raw gone.0 gone.1
 
   counted : reach c m ≡ b
-  counted = (stage_passed (refuse 11 0 (ltb (length old) (reach c m)) ∷ []) (reach c m) b gone.2).1
+  counted = (stage_passed (refuse ShortBuffer 0 (ltb (length old) (reach c m)) ∷ []) (reach c m) b gone.2).1
 
   pub layered : Layered c n L
   layered = record {
@@ -91,11 +92,11 @@ module _ (c n m : ℕ) (raw : List ℕ) (words : Words raw) (old : List ℕ) (b 
     pub holds : Holds file note c n L
     holds = record { short = short; layered = layered; whole = ap (λ (t : List ℕ). note ++ t) left }
 
-    accepted : file_answer file ≡ Done (length L)
+    accepted : file_answer file ≡ Ok (length L)
     accepted = holds_done holds
 
-    pub read_check : file_answer file ≡ Done m
-    read_check = accepted ∙ ap Done took.size
+    pub read_check : file_answer file ≡ Ok m
+    read_check = accepted ∙ ap Ok took.size
 
     pub read_entries : entries_in file ≡ m
     read_entries = sym (when_done _ accepted) ∙ holds_entries holds ∙ took.size
@@ -114,7 +115,7 @@ module _ (c n m : ℕ) (raw : List ℕ) (words : Words raw) (old : List ℕ) (b 
 
     -- into a slice that is long enough: the numbers that were saved, then what stood there
     module _ (slice : List ℕ) (room : m * (c + 2) ≤ length slice) where
-      pub read_answer_lem : load_answer file (length slice) ≡ Done m
+      pub read_answer_lem : load_answer file (length slice) ≡ Ok m
       read_answer_lem =
           let w : width c m ≡ m * (c + 2) = refl in
           sym (load_enough file (length slice) m read_check

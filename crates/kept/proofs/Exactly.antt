@@ -8,7 +8,7 @@ use mathlib.Core.Bool.{true}
 use mathlib.Core.List.{List, [], ◌∷◌, ◌++◌}
 use lib.ListN.{length, take, drop, length-take, length-drop, take-append-drop}
 use lib.Seq.{take_all, take_at, length-take-le}
-use Rattle.words.specs.declared.Answer.TheVariants.{Done}
+use Rattle.std.specs.Prelude.{Ok}
 use Rattle.little.specs.Little.{eights, number_at, numbers_at}
 use Rattle.little.proofs.Numbers.{Bytes, Words, numbers_length, numbers_words, numbers_eights}
 use Rattle.model.specs.Layer.{Layer, rows_after}
@@ -37,7 +37,7 @@ pub record Holds (f note : List ℕ) (c n : ℕ) (L : Layer) : Type 0 where
 
 -- such a file is accepted, and says what it holds
 module _ {f note : List ℕ} {c n : ℕ} {L : Layer} (h : Holds f note c n L) where
-  pub holds_done : file_answer f ≡ Done (length L)
+  pub holds_done : file_answer f ≡ Ok (length L)
   holds_done = ap file_answer h.whole ∙ file_done c n L h.layered note h.short
 
   pub holds_columns : columns f ≡ c
@@ -93,7 +93,7 @@ numbers_add (suc a) b i f =
     ∙ ap (λ (k : ℕ). numbers_at a (i + 8) f ++ numbers_at b k f) s))
 
 -- An accepted file of bytes holds a note and a layer.
-module _ (f : List ℕ) (all : Bytes f) (k : ℕ) (e : file_answer f ≡ Done k) where
+module _ (f : List ℕ) (all : Bytes f) (k : ℕ) (e : file_answer f ≡ Ok k) where
   abbrev c : ℕ
   c = columns f
 
@@ -176,8 +176,8 @@ module _ (f : List ℕ) (all : Bytes f) (k : ℕ) (e : file_answer f ≡ Done k)
 abbrev pub Held : List ℕ → ℕ → Type 0
 Held f k = (note : List ℕ) × (c : ℕ) × (n : ℕ) × (L : Layer) × Holds f note c n L × (k ≡ length L)
 
-pub accepted_exactly : (f : List ℕ) → Bytes f → (k : ℕ) → (file_answer f ≡ Done k) ↔ Held f k
+pub accepted_exactly : (f : List ℕ) → Bytes f → (k : ℕ) → (file_answer f ≡ Ok k) ↔ Held f k
 accepted_exactly f all k = (
   λ e. (_, _, _, _, done_holds f all k e, done_count f all k e),
-  λ h. holds_done h.4 ∙ ap Done (sym h.5),
+  λ h. holds_done h.4 ∙ ap Ok (sym h.5),
 )

@@ -21,9 +21,9 @@ use lib.ListN.{length, get_or, take, drop, length-append}
 use lib.Seq.{take-length}
 use lib.Dec.{leb, ltb, eqb}
 use borrow.Author.Tests.{leb-true, eqb-true, le-ltb, le-leb, eq-eqb}
+use Rattle.std.specs.Prelude.{Ok, Err}
 use Rattle.order.proofs.Tests.{and_l, and_r}
 use Rattle.order.proofs.Pairs.{AllPairs, Unbroken, unbroken}
-use Rattle.words.specs.declared.Answer.TheVariants.{Done, Refused}
 use Rattle.little.specs.Little.{eights, number_at, numbers_at}
 use Rattle.little.proofs.Numbers.{
   most,
@@ -214,12 +214,12 @@ module _ (c n : ℕ) (L : Layer) (h : Layered c n L) where
         (rows_after n (layer_of c (length L) (flat c L))) _ accepted).0.1.0
 
     -- the file is accepted
-    pub file_done : file_answer file ≡ Done (length L)
+    pub file_done : file_answer file ≡ Ok (length L)
     unfolding file_answer
     file_done =
-        all_passed Refused (file_rows file) (Done (entries file))
+        all_passed Err (file_rows file) (Ok (entries file))
         (le-ltb (length file) 32 (omega (arith, size)), (limited, (fits, (formed, tt))))
-        ∙ ap Done entries_is
+        ∙ ap Ok entries_is
       where
         limited : not (args_ok (columns file) (rows file) (entries file) (width (columns file) (entries file))) ≡ false
         limited =

@@ -10,7 +10,8 @@ use mathlib.Core.List.{List, [], ◌∷◌, ◌++◌}
 use lib.ListN.{length}
 use lib.Dec.{ltb, eqb}
 use borrow.Author.Tests.{ltb-false, le-ltb, eq-eqb, not-false}
-use Rattle.words.specs.declared.Answer.TheVariants.{Done, Refused}
+use Rattle.words.specs.declared.Cause.TheVariants.{BadArguments, BadForm, ShortBuffer, BadFile}
+use Rattle.std.specs.Prelude.{Ok, Err}
 use Rattle.model.specs.Raw.{entries_of}
 use Rattle.model.specs.Form.{args_ok, form_place}
 use Rattle.exact.proofs.FormExactly.{FormKept, form_exactly}
@@ -69,10 +70,10 @@ trailed_exactly f = (
 module _ (f : List ℕ) where
   abbrev pub file_lines : List Line
   file_lines =
-      line 12 0 (32 ≤ length f)
-      ∷ line 1 0 (ArgsPass (columns f) (rows f) (entries f) (width (columns f) (entries f)))
-      ∷ line 12 0 (Trailed f)
-      ∷ line 2 (form_place (columns f) (rows f) (entries_of (columns f) (entries f) (layer_numbers f)))
+      line BadFile 0 (32 ≤ length f)
+      ∷ line BadArguments 0 (ArgsPass (columns f) (rows f) (entries f) (width (columns f) (entries f)))
+      ∷ line BadFile 0 (Trailed f)
+      ∷ line BadForm (form_place (columns f) (rows f) (entries_of (columns f) (entries f) (layer_numbers f)))
       (FormKept (columns f) (rows f) (entries f) (layer_numbers f))
       ∷ []
 
@@ -87,7 +88,7 @@ module _ (f : List ℕ) where
       step (zero-add (form_place c n (entries_of c m (layer_numbers f))))
       (form_exactly c n m (layer_numbers f) w.columns (omega (arith, numbers_size f))) (λ v. none))))
 
-  pub file_table : Exactly Refused (file_answer f) (Done (entries f)) file_lines
+  pub file_table : Exactly Err (file_answer f) (Ok (entries f)) file_lines
   unfolding file_answer
   file_table = exactly_counts (entries f) says_file
 
@@ -97,9 +98,9 @@ module _ (f : List ℕ) where
   -- the reader into len numbers: the same, then 11
   module _ (len : ℕ) where
     abbrev pub load_lines : List Line
-    load_lines = file_lines ++ (line 11 0 (entries f * (columns f + 2) ≤ len) ∷ [])
+    load_lines = file_lines ++ (line ShortBuffer 0 (entries f * (columns f + 2) ≤ len) ∷ [])
 
-    pub load_table : Exactly Refused (load_answer f len) (Done (entries f)) load_lines
+    pub load_table : Exactly Err (load_answer f len) (Ok (entries f)) load_lines
     unfolding load_answer
     load_table =
         exactly_counts (entries f)
@@ -112,12 +113,12 @@ module _ (f : List ℕ) where
 module _ (c n m : ℕ) (raw : List ℕ) (len : ℕ) where
   abbrev pub save_lines : List Line
   save_lines =
-      line 1 0 (ArgsPass c n m (length raw))
-      ∷ line 2 (form_place c n (entries_of c m raw)) (FormKept c n m raw)
-      ∷ line 11 0 (32 + 8 * (m * (c + 2)) ≤ len)
+      line BadArguments 0 (ArgsPass c n m (length raw))
+      ∷ line BadForm (form_place c n (entries_of c m raw)) (FormKept c n m raw)
+      ∷ line ShortBuffer 0 (32 + 8 * (m * (c + 2)) ≤ len)
       ∷ []
 
-  pub save_table : Exactly Refused (save_answer c n m raw len) (Done (32 + 8 * (m * (c + 2)))) save_lines
+  pub save_table : Exactly Err (save_answer c n m raw len) (Ok (32 + 8 * (m * (c + 2)))) save_lines
   unfolding save_answer
   save_table =
       exactly_counts (reach c m)

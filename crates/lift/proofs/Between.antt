@@ -23,6 +23,7 @@ use lib.ListN.{length, get_or, take, drop, take-append-drop}
 use lib.Seq.{take_at, take-take}
 use lib.Dec.{eqb, ltb, leb}
 use borrow.Author.Tests.{not-true}
+use Rattle.words.specs.declared.Origin.TheVariants.{Base as base}
 use Rattle.order.specs.Lists.{all, filter, insert}
 use Rattle.order.proofs.Tests.{and_r, and_of}
 use Rattle.order.proofs.Members.{all_of, filter_mem, mem_filter, insert_mem, mem_insert}
@@ -35,7 +36,6 @@ use Rattle.model.specs.Row.{Row}
 use Rattle.model.specs.Layer.{Edit, at, add, strike, change, Layer, struck, changes_row, change_row, changed}
 use Rattle.model.specs.Raw.{Held, entries_at, edit_of, layer_of}
 use Rattle.model.specs.Form.{sound}
-use Rattle.model.specs.Position.{base}
 use Rattle.model.specs.Edits.{before, strike_base}
 use Rattle.theory.proofs.Raw.{entries_add, layer_length}
 use Rattle.theory.proofs.Layer.{struck_of}

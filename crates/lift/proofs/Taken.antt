@@ -10,6 +10,7 @@ use mathlib.Core.List.{List, []}
 use lib.ListN.{length, get_or, take, drop, length-drop, get_or-map}
 use lib.Seq.{length-take-le, get_or-take, get_or-drop, ext_get_or}
 use lib.Dec.{eqb}
+use Rattle.words.specs.declared.Origin.TheVariants.{Base as base, Added as added}
 use Rattle.order.specs.Lists.{ascending}
 use Rattle.order.proofs.Tests.{impossible}
 use Rattle.order.proofs.Ascending.{At, at_length, at_get_or, get_or_at, asc_of}
@@ -19,7 +20,7 @@ use Rattle.model.specs.Row.{Row, Table, key, keys, row_at, columnwise}
 use Rattle.model.specs.Layer.{at, add, Layer, struck, rows_after, changed}
 use Rattle.model.specs.Raw.{Held, none, entry_at, entries_of, edit_of, layer_of}
 use Rattle.model.specs.Read.{read}
-use Rattle.model.specs.Position.{base, added, back}
+use Rattle.model.specs.Position.{back}
 use Rattle.theory.proofs.Raw.{entry_at_lem, within, small}
 use Rattle.theory.proofs.Edits.{deed_by}
 use Rattle.theory.proofs.Fit.{Fit, good_of}

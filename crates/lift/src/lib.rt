@@ -13,7 +13,7 @@ ghost use Rattle.plan.specs.Moves.{padded, strike_splice};
 ghost use Rattle.lift.specs.Own.{own_change};
 
 use splice::Splice;
-use words::Back;
+use words::Origin;
 
 // The c numbers that lie w apart in a slice, from number s on, with zeros behind them.
 fn row_at(c: usize, w: usize, xs: &[u64], s: usize) -> [u64; 8]
@@ -77,23 +77,17 @@ pub fn lift(
         let T = columnwise c (length K) w table.now in
         (result.splice ≡ strike_splice K L (back (length K) L r)) × (result.row ≡ padded (get_or (read T L) r [])) }
 {
-    let o = mark::origin_of(c, keys.len(), m, layer, r);
-    match o {
-        Back::Base(s) => {
+    match mark::origin_of(c, keys.len(), m, layer, r) {
+        Origin::Base(s) => {
             let splice = plan::strike_base(c, m, layer, keys, s);
             let i = splice.i;
             let end = i + splice.gone;
             let row = shown_row(c, w, table, s, layer, i, end);
             Lifted { splice, row }
         }
-        Back::Added(i) => {
+        Origin::Added(i) => {
             let splice = plan::out(i);
             let row = row_at(c, 1, layer, i * (c + 2) + 2);
-            Lifted { splice, row }
-        }
-        Back::Refused(_) => {
-            let splice = plan::out(0);
-            let row = [0u64; 8];
             Lifted { splice, row }
         }
     }

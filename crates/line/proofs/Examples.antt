@@ -3,8 +3,9 @@
 use mathlib.Core.Path.{◌≡◌, refl}
 use mathlib.Core.List.{List, [], ◌∷◌, map}
 use Prim.Native.Nat.{ℕ}
+use Rattle.std.specs.Prelude.{Option, Some, None}
 use Rattle.line.specs.declared.Line.{Line}
-use Rattle.line.specs.declared.Line.TheVariants.{Base, Add, Strike, Change, Renumber, Unreadable}
+use Rattle.line.specs.declared.Line.TheVariants.{Base, Add, Strike, Change, Renumber}
 use Rattle.decimal.specs.Number.{is_number}
 use Rattle.line.specs.Line.{fields, line_of}
 
@@ -38,58 +39,58 @@ lines =
     []
 
 -- the same lines, in words
-pub meanings : List Line
+pub meanings : List (Option Line)
 meanings =
     -- `B 10 1 1`
-    Base 10 1 1 ∷
+    Some (Base 10 1 1) ∷
     -- `+ 15 2 4`
-    Add 15 2 4 ∷
+    Some (Add 15 2 4) ∷
     -- `- 0`
-    Strike 0 ∷
+    Some (Strike 0) ∷
     -- `= 2 1 7`
-    Change 2 1 7 ∷
+    Some (Change 2 1 7) ∷
     -- `! 2 30`
-    Renumber 2 30 ∷
+    Some (Renumber 2 30) ∷
     -- `- 007`
-    Strike 7 ∷
+    Some (Strike 7) ∷
     -- `- 18446744073709551615`
-    Strike 18446744073709551615 ∷
+    Some (Strike 18446744073709551615) ∷
     -- `- 18446744073709551616`
-    Unreadable ∷
+    None ∷
     -- `- 000000000000000000001`
-    Unreadable ∷
+    None ∷
     -- ``
-    Unreadable ∷
+    None ∷
     -- `-`
-    Unreadable ∷
+    None ∷
     -- `- `
-    Unreadable ∷
+    None ∷
     -- `-  1`
-    Unreadable ∷
+    None ∷
     -- ` - 1`
-    Unreadable ∷
+    None ∷
     -- `- 1 `
-    Unreadable ∷
+    None ∷
     -- `-\t1`
-    Unreadable ∷
+    None ∷
     -- `- 1\r`
-    Unreadable ∷
+    None ∷
     -- `- \xb9`
-    Unreadable ∷
+    None ∷
     -- `- -1`
-    Unreadable ∷
+    None ∷
     -- `B 1 2`
-    Unreadable ∷
+    None ∷
     -- `! 1`
-    Unreadable ∷
+    None ∷
     -- `! 1 2 3`
-    Unreadable ∷
+    None ∷
     -- `! 1 `
-    Unreadable ∷
+    None ∷
     -- `= 1 2 3 4`
-    Unreadable ∷
+    None ∷
     -- `b 1 2 3`
-    Unreadable ∷
+    None ∷
     []
 
 pub each_line : map line_of lines ≡ meanings

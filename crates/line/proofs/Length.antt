@@ -11,7 +11,7 @@ use lib.Dec.{eqb, ltb}
 use borrow.Author.Tests.{ltb-true, ltb-false}
 use Rattle.order.specs.Lists.{all}
 use Rattle.order.proofs.Tests.{and_l, and_r}
-use Rattle.line.specs.declared.Line.TheVariants.{Unreadable}
+use Rattle.std.specs.Prelude.{None}
 use Rattle.decimal.specs.Number.{digit, value, is_number, too_large}
 use Rattle.line.specs.Line.{onto, fields, said, line_of_fields, line_of}
 use Rattle.decimal.proofs.Four.{passed}
@@ -54,7 +54,7 @@ numbers_size (f ∷ fs) e =
 
 -- one byte and more numbers than three, or a longer first field
 said_none : (f : List ℕ) (fs : List (List ℕ)) → 65 < suc (length f) + size fs → size fs ≤ 21 * length fs →
-    said f (map value fs) ≡ Unreadable
+    said f (map value fs) ≡ None
 unfolding size
 said_none (x ∷ y ∷ g) fs h k = said_long x y g (map value fs)
 said_none [] [] h k = refl
@@ -69,16 +69,16 @@ said_none (x ∷ []) (a ∷ b ∷ c ∷ []) h k = absurd (omega arith)
 said_none (x ∷ []) (a ∷ b ∷ c ∷ d ∷ fs) h k = refl
 
 -- a line of more than 64 bytes is unreadable
-pub long_unreadable : (bs : List ℕ) → 64 < length bs → line_of bs ≡ Unreadable
+pub long_unreadable : (bs : List ℕ) → 64 < length bs → line_of bs ≡ None
 unfolding line_of size
 long_unreadable bs h = go (fields bs) (fields_size bs)
   where
     by : (f : List ℕ) (fs : List (List ℕ)) (t : Bool) → all is_number fs ≡ t → 65 < suc (length f) + size fs →
-        cond t (said f (map value fs)) Unreadable ≡ Unreadable
+        cond t (said f (map value fs)) None ≡ None
     by f fs true e k = said_none f fs k (numbers_size fs e)
     by f fs false e k = refl
 
-    go : (fs : List (List ℕ)) → size fs ≡ suc (length bs) → line_of_fields fs ≡ Unreadable
+    go : (fs : List (List ℕ)) → size fs ≡ suc (length bs) → line_of_fields fs ≡ None
     go [] e = refl
     go (f ∷ fs) e = by f fs (all is_number fs) refl (omega arith)
 

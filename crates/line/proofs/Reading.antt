@@ -3,7 +3,7 @@
 use mathlib.Core.Path.{◌≡◌, refl, sym, ap, ◌∙◌}
 use mathlib.Core.Bool.{Bool, true, false, cond, ◌&&◌}
 use mathlib.Core.List.{List, [], ◌∷◌, ◌++◌, map, append_assoc, append-nil}
-use Prim.Native.Nat.{ℕ, suc, ◌+◌, ◌-◌, ◌≤◌, ◌<◌}
+use Prim.Native.Nat.{ℕ, suc, ◌+◌, ◌≤◌, ◌<◌}
 use native.Mathlib.Omega.{arith}
 use native.Mathlib.Nat.{zero-add, add-zero}
 use native.Mathlib.Numerals.{add-one}
@@ -14,9 +14,9 @@ use borrow.Author.Tests.{ltb-true, lt-ltb, le-leb}
 use Rattle.order.specs.Lists.{all}
 use Rattle.order.proofs.Tests.{and_l, and_r, and_of, same_test}
 use Rattle.line.specs.declared.Line.{Line}
-use Rattle.line.specs.declared.Line.TheVariants.{Unreadable}
+use Rattle.std.specs.Prelude.{Option, Some, None}
 use Rattle.field.specs.declared.Field.{Field}
-use Rattle.field.specs.declared.Field.TheVariants.{Last, More, Bad}
+use Rattle.field.specs.declared.Field.TheVariants.{Last, More}
 use Rattle.field.specs.Scan.{more, grows, scanned}
 use Rattle.field.proofs.Pass.{unlike}
 use Rattle.decimal.proofs.Four.{passed, pass}
@@ -58,16 +58,16 @@ number_step k v b g = same_test (number_from k v (b ∷ g)) ((ltb k 20 && grows 
         (omega arith) (omega arith) (and_of (digit b) (all digit g) (and_l (digit b) (ltb (more v b) too_large) one) t.2) t.3
 
 -- the fields to come, the first of them behind k digits worth v
-abbrev pub with_digits : List ℕ → List ℕ → ℕ → ℕ → List (List ℕ) → Line
-with_digits f vs k v [] = Unreadable
+abbrev pub with_digits : List ℕ → List ℕ → ℕ → ℕ → List (List ℕ) → Option Line
+with_digits f vs k v [] = None
 with_digits f vs k v (g ∷ gs) =
-    cond (number_from k v g && all is_number gs) (said f (vs ++ value_from v g ∷ map value gs)) Unreadable
+    cond (number_from k v g && all is_number gs) (said f (vs ++ value_from v g ∷ map value gs)) None
 
 -- what a line says once its next field is read
-abbrev pub go_on : List ℕ → List ℕ → List ℕ → Field → Line
-go_on f vs xs (Last v) = said f (vs ++ (v ∷ []))
-go_on f vs xs (More v next) = with_fields f (vs ++ (v ∷ [])) (fields (drop next xs))
-go_on f vs xs Bad = Unreadable
+abbrev pub go_on : List ℕ → List ℕ → List ℕ → Option Field → Option Line
+go_on f vs xs (Some (Last v)) = said f (vs ++ (v ∷ []))
+go_on f vs xs (Some (More v next)) = with_fields f (vs ++ (v ∷ [])) (fields (drop next xs))
+go_on f vs xs None = None
 
 -- there is always a first field
 pub fields_some : (bs : List ℕ) → fields bs ≡ [] → ⊥
@@ -82,28 +82,28 @@ fields_some (b ∷ bs) e = go (eqb b 32) (fields bs) e
 
 -- a byte in front of the next field
 onto_step : (f vs : List ℕ) (k v b : ℕ) (fs : List (List ℕ)) → (fs ≡ [] → ⊥) →
-    with_digits f vs k v (onto b fs) ≡ cond (ltb k 20 && grows v b) (with_digits f vs (suc k) (more v b) fs) Unreadable
+    with_digits f vs k v (onto b fs) ≡ cond (ltb k 20 && grows v b) (with_digits f vs (suc k) (more v b) fs) None
 onto_step f vs k v b [] some = absurd (some refl)
 onto_step f vs k v b (g ∷ gs) some =
     rw (number_step k v b g) (go (ltb k 20 && grows v b))
   where
     go : (t : Bool) →
         cond ((t && number_from (suc k) (more v b) g) && all is_number gs)
-        (said f (vs ++ value_from (more v b) g ∷ map value gs)) Unreadable
-        ≡ cond t (with_digits f vs (suc k) (more v b) (g ∷ gs)) Unreadable
+        (said f (vs ++ value_from (more v b) g ∷ map value gs)) None
+        ≡ cond t (with_digits f vs (suc k) (more v b) (g ∷ gs)) None
     go true = refl
     go false = refl
 
 -- a field that has ended
 ended : (f vs : List ℕ) (k v : ℕ) (gs : List (List ℕ)) → k ≤ 20 → v < too_large →
-    with_digits f vs k v ([] ∷ gs) ≡ cond (leb 1 k) (with_fields f (vs ++ (v ∷ [])) gs) Unreadable
+    with_digits f vs k v ([] ∷ gs) ≡ cond (leb 1 k) (with_fields f (vs ++ (v ∷ [])) gs) None
 unfolding with_fields
 ended f vs k v gs h j =
     rw (append_assoc vs (v ∷ []) (map value gs), le-leb (k + 0) 20 (omega arith), lt-ltb v too_large j, add-zero k) (go (leb 1 k))
   where
     go : (t : Bool) →
-        cond (((t && true) && true) && all is_number gs) (said f (vs ++ (v ∷ map value gs))) Unreadable
-        ≡ cond t (cond (all is_number gs) (said f (vs ++ (v ∷ map value gs))) Unreadable) Unreadable
+        cond (((t && true) && true) && all is_number gs) (said f (vs ++ (v ∷ map value gs))) None
+        ≡ cond t (cond (all is_number gs) (said f (vs ++ (v ∷ map value gs))) None) None
     go true = refl
     go false = refl
 
@@ -113,20 +113,20 @@ behind xs b bs i e = ap (λ (n : ℕ). drop n xs) (sym (add-one i)) ∙ (sym (dr
 
 -- the end of the line, and a space, behind k digits worth v
 at_end : (f vs xs : List ℕ) (k v : ℕ) → k ≤ 20 → v < too_large →
-    with_digits f vs k v ([] ∷ []) ≡ go_on f vs xs (cond (leb 1 k) (Last v) Bad)
+    with_digits f vs k v ([] ∷ []) ≡ go_on f vs xs (cond (leb 1 k) (Some (Last v)) None)
 unfolding with_fields
 at_end f vs xs k v h j = ended f vs k v [] h j ∙ go (leb 1 k)
   where
-    go : (t : Bool) → cond t (with_fields f (vs ++ (v ∷ [])) []) Unreadable ≡ go_on f vs xs (cond t (Last v) Bad)
+    go : (t : Bool) → cond t (with_fields f (vs ++ (v ∷ [])) []) None ≡ go_on f vs xs (cond t (Some (Last v)) None)
     go true = ap (said f) (append-nil (vs ++ (v ∷ [])))
     go false = refl
 
 at_space : (f vs xs : List ℕ) (k v : ℕ) (bs : List ℕ) (i : ℕ) → k ≤ 20 → v < too_large → drop (suc i) xs ≡ bs →
-    with_digits f vs k v ([] ∷ fields bs) ≡ go_on f vs xs (cond (leb 1 k) (More v (suc i)) Bad)
+    with_digits f vs k v ([] ∷ fields bs) ≡ go_on f vs xs (cond (leb 1 k) (Some (More v (suc i))) None)
 at_space f vs xs k v bs i h j e = ended f vs k v (fields bs) h j ∙ go (leb 1 k)
   where
     go : (t : Bool) →
-        cond t (with_fields f (vs ++ (v ∷ [])) (fields bs)) Unreadable ≡ go_on f vs xs (cond t (More v (suc i)) Bad)
+        cond t (with_fields f (vs ++ (v ∷ [])) (fields bs)) None ≡ go_on f vs xs (cond t (Some (More v (suc i))) None)
     go true = ap (λ (l : List ℕ). with_fields f (vs ++ (v ∷ [])) (fields l)) (sym e)
     go false = refl
 
@@ -143,8 +143,8 @@ scan_law f vs xs (b ∷ bs) k v i h j e =
         (suc k ≤ 20 → more v b < too_large →
         with_digits f vs (suc k) (more v b) (fields bs) ≡ go_on f vs xs (scanned (suc k) (more v b) (suc i) bs)) →
         with_digits f vs k v (cond t ([] ∷ fields bs) (onto b (fields bs)))
-        ≡ go_on f vs xs (cond t (cond (leb 1 k) (More v (suc i)) Bad)
-        (cond u (scanned (suc k) (more v b) (suc i) bs) Bad))
+        ≡ go_on f vs xs (cond t (cond (leb 1 k) (Some (More v (suc i))) None)
+        (cond u (scanned (suc k) (more v b) (suc i) bs) None))
     byte true u eu ih = at_space f vs xs k v bs i h j (behind xs b bs i e)
     byte false true eu ih =
         onto_step f vs k v b (fields bs) (fields_some bs)
@@ -166,14 +166,14 @@ read_on f vs xs i =
 
 -- by what the pass answers: a number that ends the line, one with more behind it, none
 module _ (f vs xs : List ℕ) (i : ℕ) where
-  pub ends : (r : Field) (v : ℕ) → r ≡ scanned 0 0 i (drop i xs) → r ≡ Last v →
+  pub ends : (r : Option Field) (v : ℕ) → r ≡ scanned 0 0 i (drop i xs) → r ≡ Some (Last v) →
       with_fields f vs (fields (drop i xs)) ≡ said f (vs ++ (v ∷ []))
   ends r v e t = read_on f vs xs i ∙ ap (go_on f vs xs) (sym e ∙ t)
 
-  pub goes_on_lem : (r : Field) (v next : ℕ) → r ≡ scanned 0 0 i (drop i xs) → r ≡ More v next →
+  pub goes_on_lem : (r : Option Field) (v next : ℕ) → r ≡ scanned 0 0 i (drop i xs) → r ≡ Some (More v next) →
       with_fields f vs (fields (drop i xs)) ≡ with_fields f (vs ++ (v ∷ [])) (fields (drop next xs))
   goes_on_lem r v next e t = read_on f vs xs i ∙ ap (go_on f vs xs) (sym e ∙ t)
 
-  pub no_number : (r : Field) → r ≡ scanned 0 0 i (drop i xs) → r ≡ Bad →
-      with_fields f vs (fields (drop i xs)) ≡ Unreadable
+  pub no_number : (r : Option Field) → r ≡ scanned 0 0 i (drop i xs) → r ≡ None →
+      with_fields f vs (fields (drop i xs)) ≡ None
   no_number r e t = read_on f vs xs i ∙ ap (go_on f vs xs) (sym e ∙ t)

@@ -1,9 +1,9 @@
 -- What a line says: `B g s m` a base row, `+ g s m` adds, `- r` strikes, `= r j v` changes, `! r g` renumbers; any other line is
 -- unreadable.
-use Rattle.std.specs.Prelude.{Bool, false, cond, List, [], ◌∷◌, map, ℕ, eqb}
+use Rattle.std.specs.Prelude.{Bool, Option, Some, None, false, cond, List, [], ◌∷◌, map, ℕ, eqb}
 use Rattle.order.specs.Lists.{all}
 use Rattle.line.specs.declared.Line.{Line}
-use Rattle.line.specs.declared.Line.TheVariants.{Base, Add, Strike, Change, Renumber, Unreadable}
+use Rattle.line.specs.declared.Line.TheVariants.{Base, Add, Strike, Change, Renumber}
 use Rattle.decimal.specs.Number.{value, is_number}
 
 -- a byte in front of the first field
@@ -23,19 +23,19 @@ is x (b ∷ []) = eqb b x
 is x (b ∷ c ∷ f) = false
 
 -- what the first field says of the numbers behind it: B and three, + and three, - and one, = and three, ! and two
-abbrev pub said : List ℕ → List ℕ → Line
-said f [] = Unreadable
-said f (r ∷ []) = cond (is 45 f) (Strike r) Unreadable
-said f (a ∷ b ∷ []) = cond (is 33 f) (Renumber a b) Unreadable
+abbrev pub said : List ℕ → List ℕ → Option Line
+said f [] = None
+said f (r ∷ []) = cond (is 45 f) (Some (Strike r)) None
+said f (a ∷ b ∷ []) = cond (is 33 f) (Some (Renumber a b)) None
 said f (a ∷ b ∷ c ∷ []) =
-    cond (is 66 f) (Base a b c) (cond (is 43 f) (Add a b c) (cond (is 61 f) (Change a b c) Unreadable))
-said f (a ∷ b ∷ c ∷ d ∷ vs) = Unreadable
+    cond (is 66 f) (Some (Base a b c)) (cond (is 43 f) (Some (Add a b c)) (cond (is 61 f) (Some (Change a b c)) None))
+said f (a ∷ b ∷ c ∷ d ∷ vs) = None
 
 -- a first field, and numbers behind it
-abbrev pub line_of_fields : List (List ℕ) → Line
-line_of_fields [] = Unreadable
-line_of_fields (f ∷ fs) = cond (all is_number fs) (said f (map value fs)) Unreadable
+abbrev pub line_of_fields : List (List ℕ) → Option Line
+line_of_fields [] = None
+line_of_fields (f ∷ fs) = cond (all is_number fs) (said f (map value fs)) None
 
 -- what the bytes of a line say, without its line feed
-unfoldable pub line_of : List ℕ → Line
+unfoldable pub line_of : List ℕ → Option Line
 line_of bs = line_of_fields (fields bs)

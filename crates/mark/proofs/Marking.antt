@@ -12,11 +12,11 @@ use lib.ListN.{length, get_or, drop, length-drop}
 use lib.Seq.{get_or-drop, drop-drop}
 use lib.Dec.{ltb, eqb}
 use borrow.Author.Tests.{ltb-true, ltb-false, lt-ltb, le-ltb, eq-eqb, ne_eqb}
+use Rattle.words.specs.declared.Origin.TheVariants.{Base as base, Added as added}
 use Rattle.order.proofs.Tests.{tests}
 use Rattle.model.specs.Cell.{to}
 use Rattle.model.specs.Row.{key}
 use Rattle.model.specs.Layer.{at, add, strike, change, Edit, Layer}
-use Rattle.model.specs.Position.{base, added}
 use Rattle.theory.proofs.Origin.{added_row}
 use Rattle.entry.specs.Look.{look_of}
 use Rattle.entry.proofs.Looks.{after_placed}

@@ -23,13 +23,14 @@ use lib.ListN.{length, length-append}
 use lib.Seq.{append_snoc, get_or-append_seam, take-append_seam}
 use lib.Dec.{leb, ltb, eqb}
 use borrow.Author.Tests.{ltb-true, ltb-false, leb-true, eqb-true, lt-ltb, le-ltb, le-leb, lt-leb}
+use Rattle.words.specs.declared.Origin.TheVariants.{Base as base, Added as added}
 use Rattle.order.specs.Lists.{one, count}
 use Rattle.order.proofs.Tests.{tests, and_l}
 use Rattle.order.proofs.Counts.{count_append}
 use Rattle.order.proofs.Pairs.{AllPairs}
 use Rattle.model.specs.Layer.{Deed, Edit, at, add, strike, change, Layer, position, is_add, is_strike, rows_after, struck}
 use Rattle.model.specs.Form.{sound, follows, in_order}
-use Rattle.model.specs.Position.{add_up_to, strike_before, row_of, base, added, back}
+use Rattle.model.specs.Position.{add_up_to, strike_before, row_of, back}
 use Rattle.theory.proofs.Layer.{struck_none, adds_same, adds_zero, strikes_same, strikes_zero}
 use Rattle.theory.proofs.Position.{
   formed,

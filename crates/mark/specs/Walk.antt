@@ -1,8 +1,9 @@
 -- The way back in one pass: a row number turns into a base position as the adds and strikes before it are passed. A mark
 -- stands on this way.
+use Rattle.words.specs.declared.Origin.{Origin}
+use Rattle.words.specs.declared.Origin.TheVariants.{Base as base, Added as added}
 use Rattle.std.specs.Prelude.{◌≡◌, cond, [], ◌∷◌, ℕ, suc, ◌+◌, ◌*◌, ◌-◌, ◌≤◌, length, drop, ltb, eqb}
 use Rattle.model.specs.Layer.{at, add, strike, change, Layer}
-use Rattle.model.specs.Position.{Origin, base, added}
 use Rattle.entry.specs.declared.Sight.{Sight}
 use Rattle.entry.specs.declared.Sight.TheVariants.{End, Add, Strike, Change}
 use Rattle.entry.specs.Look.{look_of}

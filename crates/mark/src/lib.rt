@@ -6,11 +6,10 @@ ghost use Rattle.model.specs.Layer.{rows_after};
 ghost use Rattle.model.specs.Raw.{Held, layer_of};
 ghost use Rattle.model.specs.Form.{in_order};
 ghost use Rattle.model.specs.Position.{back};
-ghost use Rattle.model.specs.Calls.{origin_answer};
 ghost use Rattle.mark.specs.Walk.{way_by, way_at, Stays, fresh, toward, past, Marks};
 
 use entry::{Cursor, Sight};
-use words::Back;
+use words::Origin;
 
 // A place in a layer on the way to a row of what it shows: entry number i, which stands from `at`. Were there no
 // entries but those from there on, the row would be base row t.
@@ -143,18 +142,18 @@ pub fn seek(c: usize, m: usize, layer: &[u64], mark: Mark, row: usize) -> Mark
 }
 
 // What stands at row r of a layer in order.
-pub fn origin_of(c: usize, n: usize, m: usize, layer: &[u64], r: usize) -> Back
+pub fn origin_of(c: usize, n: usize, m: usize, layer: &[u64], r: usize) -> Origin
     requires { Held c m layer.now × (n ≤ 4096) × (in_order c n (layer_of c m layer.now) ≡ true)
         × (r < rows_after n (layer_of c m layer.now)) }
-    ensures { result ≡ origin_answer (back n (layer_of c m layer.now) r) }
+    ensures { result ≡ back n (layer_of c m layer.now) r }
 {
     let k = seek(c, m, layer, Mark::first(), r);
     let i = k.i;
     let t = k.t;
     let w = way_at(c, m, layer, k);
     match w {
-        Way::Own(_) => Back::Added(i),
-        Way::Before => Back::Base(t),
-        Way::On(_) => Back::Base(t),
+        Way::Own(_) => Origin::Added(i),
+        Way::Before => Origin::Base(t),
+        Way::On(_) => Origin::Base(t),
     }
 }

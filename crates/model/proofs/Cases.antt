@@ -13,7 +13,9 @@ use Rattle.model.specs.Position.{origins}
 use Rattle.model.specs.Edits.{before, add_row, strike_base, change_base, strike_row, change_row_no, renumber_row}
 use Rattle.model.specs.Redo.{combine}
 use Rattle.model.specs.Steps.{renumbering, step_by}
-use Rattle.model.specs.Conflict.{none, same_cell, clash}
+use Rattle.std.specs.Prelude.{Some, None}
+use Rattle.words.specs.declared.Rule.TheVariants.{SameCell as same_cell}
+use Rattle.model.specs.Conflict.{clash}
 use Rattle.model.specs.Meaning.{meaning, row, given}
 
 -- three base groups
@@ -62,13 +64,13 @@ unfolding combine change_row_no change_base origins key
 upper_row = refl
 
 -- one cell: to one value nothing is met, to two values rule 2 is, and two columns of a row are two cells
-pub one_value : clash (at 1 (change 1 (to 5))) (at 1 (change 1 (to 5))) ≡ none
+pub one_value : clash (at 1 (change 1 (to 5))) (at 1 (change 1 (to 5))) ≡ None
 one_value = refl
 
-pub two_values : clash (at 1 (change 1 (to 5))) (at 1 (change 1 (to 6))) ≡ same_cell
+pub two_values : clash (at 1 (change 1 (to 5))) (at 1 (change 1 (to 6))) ≡ Some same_cell
 two_values = refl
 
-pub two_columns : clash (at 1 (change 1 (to 5))) (at 1 (change 2 (to 6))) ≡ none
+pub two_columns : clash (at 1 (change 1 (to 5))) (at 1 (change 2 (to 6))) ≡ None
 two_columns = refl
 
 -- a table in one slice by columns, end to end and two numbers further apart than its rows are

@@ -1,4 +1,6 @@
 -- The edits as new layers: an entry goes where its position, kind, key or column puts it.
+use Rattle.words.specs.declared.Origin.{Origin}
+use Rattle.words.specs.declared.Origin.TheVariants.{Base as base, Added as added}
 use Rattle.std.specs.Prelude.{Bool, true, false, not, cond, ◌&&◌, ◌||◌, List, [], ◌∷◌, ℕ, zero, suc, length, get_or, ltb, eqb}
 use Rattle.order.specs.Lists.{filter, insert, without}
 use Rattle.model.specs.Row.{Row, Table, key, keys, with_key}
@@ -6,7 +8,7 @@ use Rattle.model.specs.Cell.{CellEdit, over, put}
 use Rattle.model.specs.Layer.{Deed, add, strike, change, Edit, at, Layer, changes_row, changes_cell}
 use Rattle.model.specs.Fit.{keys_below}
 use Rattle.model.specs.Read.{read, keys_after}
-use Rattle.model.specs.Position.{Origin, base, added, back}
+use Rattle.model.specs.Position.{back}
 
 -- at one position adds stand first, in key order; then a strike, or changes in column order
 abbrev pub deed_before : Deed → Deed → Bool

@@ -1,4 +1,6 @@
 -- Positions: the shift at a base position, its row number, and back from a row number to what stands there.
+use Rattle.words.specs.declared.Origin.{Origin}
+use Rattle.words.specs.declared.Origin.TheVariants.{Base as base, Added as added}
 use Rattle.std.specs.Prelude.{Bool, cond, List, [], ◌∷◌, map, ℕ, suc, ◌+◌, ◌-◌, get_or, replicate, ℤ, leb, ltb, eqb}
 use Rattle.std.proofs.Math.IntN.{sub_ℕ}
 use Rattle.order.specs.Lists.{count}
@@ -20,11 +22,6 @@ shift L s = sub_ℕ (count (add_up_to s) L) (count (strike_before s) L)
 -- row number = s + shift
 unfoldable pub row_of : Layer → ℕ → ℕ
 row_of L s = (s + count (add_up_to s) L) - count (strike_before s) L
-
--- what a row number stands for: base row s, or the added entry number i
-pub data Origin : Type 0 where
-  base : ℕ → Origin
-  added : ℕ → Origin
 
 -- the numbers of the entries that add at s, where the first entry of the list has number i
 abbrev pub add_numbers : ℕ → ℕ → Layer → List ℕ

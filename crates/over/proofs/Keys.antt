@@ -8,12 +8,14 @@ use native.Mathlib.Omega.{arith}
 use lib.ListN.{length, get_or, length-map, get_or-map, get_or-eq_default}
 use lib.Dec.{leb, ltb}
 use borrow.Author.Tests.{leb-true}
+use Rattle.words.specs.declared.Origin.{Origin}
+use Rattle.words.specs.declared.Origin.TheVariants.{Base as base, Added as added}
 use Rattle.order.proofs.Tests.{and_l, and_r}
 use Rattle.model.specs.Row.{key, keys}
 use Rattle.model.specs.Layer.{add, change, at, Layer, rows_after}
 use Rattle.model.specs.Raw.{layer_of}
 use Rattle.model.specs.Read.{keys_after}
-use Rattle.model.specs.Position.{Origin, base, added, origins, back}
+use Rattle.model.specs.Position.{origins, back}
 use Rattle.theory.proofs.Layer.{KeyKept, changed_key}
 use Rattle.theory.proofs.Column.{keys_read, singles, keys_singles, singles_length}
 use Rattle.theory.proofs.Fit.{keys_at}

@@ -9,10 +9,10 @@ use lib.ListN.{length, length-map, length-append}
 use lib.Seq.{length-take-le}
 use lib.Dec.{ltb, leb, eqb}
 use borrow.Author.Tests.{not-false, ltb-true, leb-true}
+use Rattle.std.specs.Prelude.{Ok, Err}
 use Rattle.order.specs.Lists.{ascending, count, gather}
 use Rattle.order.proofs.Tests.{and_l}
 use Rattle.order.proofs.Ascending.{below, asc_of}
-use Rattle.words.specs.declared.Answer.TheVariants.{Done, Refused}
 use Rattle.model.specs.Row.{Table, key, keys}
 use Rattle.model.specs.Cell.{to}
 use Rattle.model.specs.Layer.{add, strike, change, Edit, at, Layer, position}
@@ -36,7 +36,7 @@ pub record Sides (c : ℕ) (K : List ℕ) (mx : ℕ) (x : List ℕ) (my : ℕ) (
   pub theirs : Ready c my y K
 
 module _ (c : ℕ) (K : List ℕ) (mx : ℕ) (x : List ℕ) (my : ℕ) (y : List ℕ) where
-  pub sides : (t k : ℕ) → first_met Refused (pair_rows c K mx x my y) (Done t) ≡ Done k → Sides c K mx x my y × (t ≡ k)
+  pub sides : (t k : ℕ) → first_met Err (pair_rows c K mx x my y) (Ok t) ≡ Ok k → Sides c K mx x my y × (t ≡ k)
   unfolding pair_rows
   sides t k h =
       let w = stage_passed (pair_rows c K mx x my y) t k h in

@@ -17,6 +17,8 @@ use mathlib.Core.List.{
 use lib.ListN.{length, get_or, take, drop}
 use lib.Dec.{leb, ltb}
 use borrow.Author.Tests.{leb-true, leb-false, ltb-true, ltb-false}
+use Rattle.words.specs.declared.Origin.{Origin}
+use Rattle.words.specs.declared.Origin.TheVariants.{Base as base, Added as added}
 use Rattle.order.specs.Lists.{insert}
 use Rattle.order.proofs.Tests.{not_passed}
 use Rattle.order.proofs.Ascending.{At}
@@ -26,12 +28,10 @@ use Rattle.model.specs.Row.{Row, key}
 use Rattle.model.specs.Layer.{Deed, add, strike, Edit, at, Layer}
 use Rattle.model.specs.Raw.{layer_of}
 use Rattle.model.specs.Fit.{keys_below}
-use Rattle.model.specs.Position.{Origin, base, added}
 use Rattle.model.specs.Edits.{deed_before, before, add_row, strike_origin}
 use Rattle.theory.proofs.Edits.{before_lt, before_eq, before_trans, before_asym}
 use Rattle.theory.proofs.Origin.{Stands}
 use Rattle.splice.specs.declared.Splice.{Splice}
-use Rattle.store.specs.Numbers.{coming}
 use Rattle.write.specs.Plans.{Splices, BothSplice}
 use Rattle.landing.specs.Landing.{aim, landing}
 use Rattle.landing.proofs.Landed.{landing_le, lands_after, lands_first}
@@ -91,45 +91,38 @@ module _ {c m : ℕ} {raw K : List ℕ} (N : Known c m raw K) (row : Row) (l : l
       ltb-false i j (not_passed (ltb i j) (λ t. true≢false (sym (first d (at_front i j L a (ltb-true i j t))) ∙ b)))
 
   module _ {M : Layer} {q : Splice} (S : Splices c L M q) where
-    abbrev new : Layer
-    new = coming q.comes (S.edit ∷ [])
-
     -- where it lands up to the splice, and before what comes there
-    add_ahead : j ≤ q.i → ((d : Edit) → Mem d new → before d e ≡ false)
+    add_ahead : j ≤ q.i → ((d : Edit) → Mem d S.new → before d e ≡ false)
         → BothSplice c L (add_row K row M) (add_splice K L row) q
     unfolding add_row
     add_ahead h f = record {
-      edit = e;
-      edit₂ = S.edit;
-      within = record { first = omega arith; second = S.within; few = omega arith; few₂ = S.few };
+      new = e ∷ [];
+      new₂ = S.new;
+      within = record { first = omega arith; second = S.within };
       leads =
           ap (insert before e) S.leads
-          ∙ (insert_ahead before e q.i j (q.i + q.gone) new L first later (omega arith) h f
-          ∙ ap (λ (n : ℕ). take j L ++ (e ∷ (take (q.i - n) (drop n L) ++ (new ++ drop (q.i + q.gone) L))))
+          ∙ (insert_ahead before e q.i j (q.i + q.gone) S.new L first later (omega arith) h f
+          ∙ ap (λ (n : ℕ). take j L ++ (e ∷ (take (q.i - n) (drop n L) ++ (S.new ++ drop (q.i + q.gone) L))))
           (sym (add-zero j)));
-      numbers = add_numbers_lem N p row l;
-      wide = omega (arith, l);
-      numbers₂ = S.numbers;
-      wide₂ = S.wide;
+      brings = (e, refl, add_numbers_lem N p row l, omega (arith, l));
+      brings₂ = S.brings;
     }
 
     -- where it lands past the splice, and what comes there stands before it
-    add_behind : q.i + q.gone ≤ j → ((d : Edit) → Mem d new → before d e ≡ true)
+    add_behind : q.i + q.gone ≤ j → ((d : Edit) → Mem d S.new → before d e ≡ true)
         → BothSplice c L (add_row K row M) q (add_splice K L row)
     unfolding add_row
     add_behind h f = record {
-      edit = S.edit;
-      edit₂ = e;
-      within = record { first = h; second = omega (arith, landing_le x L); few = S.few; few₂ = omega arith };
+      new = S.new;
+      new₂ = e ∷ [];
+      within = record { first = h; second = omega (arith, landing_le x L) };
       leads =
           ap (insert before e) S.leads
-          ∙ (insert_behind before e q.i j (q.i + q.gone) new L first later (omega arith) h f
-          ∙ ap (λ (n : ℕ). take q.i L ++ (new ++ (take (j - (q.i + q.gone)) (drop (q.i + q.gone) L) ++ (e ∷ drop n L))))
+          ∙ (insert_behind before e q.i j (q.i + q.gone) S.new L first later (omega arith) h f
+          ∙ ap (λ (n : ℕ). take q.i L ++ (S.new ++ (take (j - (q.i + q.gone)) (drop (q.i + q.gone) L) ++ (e ∷ drop n L))))
           (sym (add-zero j)));
-      numbers = S.numbers;
-      wide = S.wide;
-      numbers₂ = add_numbers_lem N p row l;
-      wide₂ = omega (arith, l);
+      brings = S.brings;
+      brings₂ = (e, refl, add_numbers_lem N p row l, omega (arith, l));
     }
 
   -- a row of this origin is struck, and the row added: its splice lies in front of the strike's; behind it

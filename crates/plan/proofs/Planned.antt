@@ -10,13 +10,15 @@ use lib.ListN.{length, get_or, take, drop, replicate}
 use lib.Seq.{paste, take_at, take-length}
 use lib.Dec.{leb, ltb}
 use borrow.Author.Tests.{lt-ltb, le-leb}
+use Rattle.std.specs.Prelude.{Some}
+use Rattle.words.specs.declared.Origin.{Origin}
+use Rattle.words.specs.declared.Origin.TheVariants.{Base as base, Added as added}
 use Rattle.order.specs.Lists.{one}
 use Rattle.order.proofs.Tests.{and_of}
 use Rattle.order.proofs.Pairs.{AllPairs}
 use Rattle.order.proofs.Ascending.{At, at_length, get_or_at}
 use Rattle.order.proofs.Splice.{insert_at, without_at}
 use Rattle.words.specs.declared.Entry.{Entry}
-use Rattle.words.specs.declared.Back.TheVariants as backed
 use Rattle.model.specs.Row.{Row, key}
 use Rattle.model.specs.Cell.{to, put}
 use Rattle.model.specs.Layer.{Edit, at, add, strike, change, Layer, struck, rows_after}
@@ -24,16 +26,16 @@ use Rattle.model.specs.Raw.{numbers_of, layer_of}
 use Rattle.words.specs.Entry.{ADD, STRIKE, add_entry, strike_entry, change_entry}
 use Rattle.model.specs.Fit.{keys_below}
 use Rattle.model.specs.Read.{read}
-use Rattle.model.specs.Position.{Origin, base, added, back}
+use Rattle.model.specs.Position.{back}
 use Rattle.model.specs.Edits.{before, add_row, strike_origin, strike_row, change_base, change_added_row, change_row_no}
-use Rattle.model.specs.Calls.{origin_answer}
 use Rattle.theory.proofs.Count.{read_length}
 use Rattle.theory.proofs.Column.{singles, singles_length}
 use Rattle.theory.proofs.Edits.{set_composed}
-use Rattle.theory.proofs.Origin.{Stands, back_row, origin_base, origin_added}
+use Rattle.theory.proofs.Origin.{Stands, back_row}
 use Rattle.theory.proofs.Readback.{sound_wide}
 use Rattle.store.specs.Numbers.{entry_numbers}
-use Rattle.enter.specs.Move.{Move, number}
+use Rattle.enter.specs.declared.Move.{Move}
+use Rattle.enter.specs.declared.Move.TheVariants.{Number as number}
 use Rattle.write.specs.Plans.{Splices, Sets, Plans, splices, sets}
 use Rattle.write.proofs.Layers.{Written, strike_numbers, change_numbers}
 use Rattle.landing.specs.Landing.{aim, landing, changes_first}
@@ -60,12 +62,12 @@ key_first row = refl
 -- the splice of an add, from its position, where it lands and its entry
 pub add_is : (K : List ℕ) (L : Layer) (row : Row) (p i : ℕ) → p ≡ keys_below (key row) K
     → i ≡ landing (aim p ADD (key row)) L
-    → (e : Entry) → e ≡ add_entry p (padded row) → record { i = i; gone = 0; comes = 1; entry = e } ≡ add_splice K L row
+    → (e : Entry) → e ≡ add_entry p (padded row) → record { i = i; gone = 0; comes = Some e } ≡ add_splice K L row
 add_is K L row p i ranks lands e f =
     let j : i ≡ landing (aim (keys_below (key row) K) ADD (key row)) L =
     lands ∙ ap (λ (n : ℕ). landing (aim n ADD (key row)) L) ranks in
     let g : e ≡ add_entry (keys_below (key row) K) (padded row) = f ∙ ap (λ (n : ℕ). add_entry n (padded row)) ranks in
-    λ x. record { i = j x; gone = 0; comes = 1; entry = g x }
+    λ x. record { i = j x; gone = 0; comes = Some (g x) }
 
 module _ {c m : ℕ} {raw K : List ℕ} (N : Known c m raw K) where
   abbrev L : Layer
@@ -96,15 +98,13 @@ module _ {c m : ℕ} {raw K : List ℕ} (N : Known c m raw K) where
       let i = landing x L in
       let same : (d : Edit) → before d (at p (add row)) ≡ before d x = λ d. sym (aim_add d p (key row) row refl) in
       record {
-        edit = at p (add row);
-        few = omega arith;
+        new = at p (add row) ∷ [];
         within = omega (arith, landing_le x L);
         leads =
             insert_at before (at p (add row)) i L (λ d n. same d ∙ lands_after x L i refl d n)
             (λ d n. same d ∙ lands_first x L i refl sorted d n)
             ∙ ap (λ (n : ℕ). take i L ++ (at p (add row) ∷ drop n L)) (sym (add-zero i));
-        numbers = add_numbers_lem p row l;
-        wide = omega (arith, l);
+        brings = (at p (add row), refl, add_numbers_lem p row l, omega (arith, l));
       }
 
   -- a strike's entry has the numbers of the strike, c + 2 of them
@@ -121,21 +121,17 @@ module _ {c m : ℕ} {raw K : List ℕ} (N : Known c m raw K) where
       let i = landing (aim s STRIKE 0) L in
       let end = landing (aim (s + 1) ADD 0) L in
       record {
-        edit = at s (strike (get_or K s 0));
-        few = omega arith;
+        new = at s (strike (get_or K s 0)) ∷ [];
         within = (in_turn_lem s L sorted i end refl refl).1;
         leads = strike_splice_lem s L sorted i end refl refl K w.1;
-        numbers = struck_numbers s (get_or K s 0);
-        wide = struck_wide s (get_or K s 0);
+        brings = (at s (strike (get_or K s 0)), refl, struck_numbers s (get_or K s 0), struck_wide s (get_or K s 0));
       }
   strike_from_lem (added i) w =
       record {
-        edit = at 0 (strike 0);
-        few = omega arith;
+        new = [];
         within = omega (arith, at_length w.2);
         leads = without_at i L;
-        numbers = struck_numbers 0 0;
-        wide = struck_wide 0 0;
+        brings = refl;
       }
 
   -- Change a cell of a base row, where i is where its change lands.
@@ -148,24 +144,26 @@ module _ {c m : ℕ} {raw K : List ℕ} (N : Known c m raw K) where
     changed t q = change_splice s j (to v) L sorted i lands t q (to v) (sym (set_composed s j v L))
 
     -- it has none: the new one comes
-    change_comes : changes_first s j (drop i L) ≡ false → (e : Entry) → e ≡ change_entry s j v
-        → Splices c L (change_base s j (to v) L) (record { i = i; gone = 0; comes = 1; entry = e })
+    pub change_comes : changes_first s j (drop i L) ≡ false → (e : Entry) → e ≡ change_entry s j v
+        → Splices c L (change_base s j (to v) L) (record { i = i; gone = 0; comes = Some e })
     change_comes q e f =
         let h = N.acc.held in
         record {
-          edit = at s (change j (to v));
-          few = omega arith;
+          new = at s (change j (to v)) ∷ [];
           within = omega (arith, first_there s j (to v) L sorted i lands false q);
           leads = changed false q;
-          numbers = ap (entry_numbers c) f ∙ change_numbers c s v h.some h.columns j;
-          wide =
-              sound_wide c (suc s) h.some (at s (change j (to v)))
-              (and_of (ltb s (suc s)) (leb 1 j && ltb j c) (lt-ltb s (suc s) (omega arith))
-              (and_of (leb 1 j) (ltb j c) (le-leb 1 j l) (lt-ltb j c g)));
+          brings = (
+            at s (change j (to v)),
+            refl,
+            ap (entry_numbers c) f ∙ change_numbers c s v h.some h.columns j,
+            sound_wide c (suc s) h.some (at s (change j (to v)))
+                (and_of (ltb s (suc s)) (leb 1 j && ltb j c) (lt-ltb s (suc s) (omega arith))
+                (and_of (leb 1 j) (ltb j c) (le-leb 1 j l) (lt-ltb j c g))),
+          );
         }
 
     -- it has one: that gets the value
-    change_stands : changes_first s j (drop i L) ≡ true
+    pub change_stands : changes_first s j (drop i L) ≡ true
         → Sets c L (change_base s j (to v) L) (record { i = i; j = 0; v = v })
     change_stands q =
         let w = first_change s j i L q in
@@ -180,7 +178,7 @@ module _ {c m : ℕ} {raw K : List ℕ} (N : Known c m raw K) where
 
     pub change_plans : (t : Bool) → t ≡ changes_first s j (drop i L) → (e : Entry) → e ≡ change_entry s j v
         → Plans c L (change_base s j (to v) L)
-        (one_of t (record { i = i; j = 0; v = v }) (record { i = i; gone = 0; comes = 1; entry = e }))
+        (one_of t (record { i = i; j = 0; v = v }) (record { i = i; gone = 0; comes = Some e }))
     change_plans true q e f = sets (change_stands (sym q))
     change_plans false q e f = splices (change_comes (sym q) e f)
 
@@ -194,19 +192,11 @@ module _ {c m : ℕ} {raw K : List ℕ} (N : Known c m raw K) where
         let w = back_row T L r (get_or (read T L) r []) (get_or_at (read T L) r [] (omega (arith, e))) in
         rw (singles_length K) at w.stands
 
-    pub of_base : (s : ℕ) → origin_answer (back (length K) L r) ≡ backed.Base s
-        → (back (length K) L r ≡ base s) × (s < length K) × (struck s L ≡ false)
-    of_base s e =
-        let o = origin_base (back (length K) L r) s e in
-        let w = subst (Stands (length K) L) o stands in
-        (o, w.0, w.1)
+    pub of_base : (s : ℕ) → back (length K) L r ≡ base s → (s < length K) × (struck s L ≡ false)
+    of_base s e = subst (Stands (length K) L) e stands
 
-    pub of_added : (i : ℕ) → origin_answer (back (length K) L r) ≡ backed.Added i
-        → (back (length K) L r ≡ added i) × (p : ℕ) × (q : Row) × At (at p (add q)) i 0 L
-    of_added i e =
-        let o = origin_added (back (length K) L r) i e in
-        let w = subst (Stands (length K) L) o stands in
-        (o, w.0, w.1, w.2)
+    pub of_added : (i : ℕ) → back (length K) L r ≡ added i → (p : ℕ) × (q : Row) × At (at p (add q)) i 0 L
+    of_added i e = subst (Stands (length K) L) e stands
 
     pub change_of_base : (j v s : ℕ) → back (length K) L r ≡ base s → (p : Move) → Plans c L (change_base s j (to v) L) p
         → Plans c L (change_row_no K r j (to v) L) p
@@ -214,18 +204,18 @@ module _ {c m : ℕ} {raw K : List ℕ} (N : Known c m raw K) where
     change_of_base j v s o p w = rw o w
 
     -- change a cell of an added row: its value alone is set
-    pub change_of_added : (j v i : ℕ) → origin_answer (back (length K) L r) ≡ backed.Added i → j < c
+    pub change_of_added : (j v i : ℕ) → back (length K) L r ≡ added i → j < c
         → Plans c L (change_row_no K r j (to v) L) (number (record { i = i; j = j; v = v }))
     unfolding change_row_no put
     change_of_added j v i e l =
         let w = of_added i e in
         let t : 2 + j ≡ suc (suc j) = omega arith in
-        rw w.0 (sets {x = record { i = i; j = j; v = v }} (record {
-          old = at w.1 (add w.2);
-          new = change_added_row j (to v) (at w.1 (add w.2));
-          there = w.3;
+        rw e (sets {x = record { i = i; j = j; v = v }} (record {
+          old = at w.0 (add w.1);
+          new = change_added_row j (to v) (at w.0 (add w.1));
+          there = w.2;
           column = l;
-          leads = change_at i j (to v) (at w.1 (add w.2)) L w.3;
+          leads = change_at i j (to v) (at w.0 (add w.1)) L w.2;
           numbers = rw t;
         }))
 

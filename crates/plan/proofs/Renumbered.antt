@@ -11,15 +11,17 @@ use lib.ListN.{length, get_or}
 use lib.Seq.{take-length, drop-length}
 use lib.Dec.{ltb, eqb}
 use borrow.Author.Tests.{ltb-true, ltb-false, lt-ltb, eqb-true, eqb-false, eq-eqb, ne_eqb}
+use Rattle.words.specs.declared.Origin.{Origin}
+use Rattle.words.specs.declared.Origin.TheVariants.{Base as base, Added as added}
 use Rattle.order.specs.Lists.{count, ascending}
 use Rattle.order.proofs.Ascending.{AscFrom, below, at_mem, get_or_at, asc_of, of_asc, count_mono, count_strict, get_or_count}
 use Rattle.model.specs.Row.{Row, Table, key, keys, with_key}
-use Rattle.model.specs.Layer.{add, strike, at, Layer, rows_after}
+use Rattle.model.specs.Layer.{add, at, Layer, rows_after}
 use Rattle.model.specs.Raw.{layer_of}
 use Rattle.model.specs.Form.{in_order}
 use Rattle.model.specs.Fit.{fits, keys_below}
 use Rattle.model.specs.Read.{read}
-use Rattle.model.specs.Position.{Origin, base, added, back}
+use Rattle.model.specs.Position.{back}
 use Rattle.model.specs.Edits.{before, add_row, strike_origin, strike_row, renumber_row}
 use Rattle.theory.proofs.Layer.{changed_key}
 use Rattle.theory.proofs.Fit.{Good, good_of, good_fits, key_kept, keys_length, below_keys}
@@ -27,11 +29,12 @@ use Rattle.theory.proofs.Count.{read_length}
 use Rattle.theory.proofs.Column.{singles, keys_singles}
 use Rattle.theory.proofs.Origin.{Stands, RowOrigin, back_row, added_at}
 use Rattle.theory.proofs.Renumbered.{with_key_lem, with_key_length}
-use Rattle.enter.specs.Move.{none_at, entries, in_key_order}
+use Rattle.enter.specs.declared.Move.TheVariants.{Entries as entries}
+use Rattle.enter.specs.Move.{none_at, in_key_order}
 use Rattle.write.specs.Plans.{Splices, BothSplice, Plans, splices, pairs}
 use Rattle.landing.proofs.Known.{Known}
 use Rattle.plan.specs.Moves.{add_splice, strike_splice, renumber_move}
-use Rattle.plan.proofs.Planned.{struck_numbers, struck_wide, stands}
+use Rattle.plan.proofs.Planned.{stands}
 use Rattle.plan.proofs.Beside.{not_past, Ahead, Behind, base_ahead, base_behind, added_ahead, added_behind}
 
 -- The keys of a known layer's table rise, and the layer is good over the table.
@@ -154,12 +157,10 @@ module _ {c m : ℕ} {raw : List ℕ} (T : Table) (N : Known c m raw (keys T)) (
   -- no splice leads from the layer to itself
   none : Splices c L L (none_at (length L))
   none = record {
-    edit = at 0 (strike 0);
-    few = omega arith;
+    new = [];
     within = omega arith;
     leads = sym (rw (add-zero, take-length L, drop-length L) (append-nil L));
-    numbers = struck_numbers N 0 0;
-    wide = struck_wide N 0 0;
+    brings = refl;
   }
 
   -- so a renumbering is the move that is said of it

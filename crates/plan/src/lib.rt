@@ -8,15 +8,16 @@ ghost use Rattle.model.specs.Layer.{struck, rows_after};
 ghost use Rattle.model.specs.Raw.{layer_of};
 ghost use Rattle.model.specs.Read.{keys_after};
 ghost use Rattle.model.specs.Refusals.{shown_key};
-ghost use Rattle.model.specs.Position.{base, back};
+ghost use Rattle.words.specs.declared.Origin.TheVariants.{Base};
+ghost use Rattle.model.specs.Position.{back};
 ghost use Rattle.model.specs.Edits.{change_base, change_row_no};
 ghost use Rattle.write.specs.Plans.{Plans};
 ghost use Rattle.fit.specs.Ready.{Ready};
-ghost use Rattle.plan.specs.Moves.{padded, add_splice, out_of, strike_splice, value_of, move_of};
+ghost use Rattle.plan.specs.Moves.{padded, add_splice, out_of, strike_splice};
 
-use enter::Value;
+use enter::{Move, Value};
 use splice::Splice;
-use words::{Back, Entry};
+use words::{Entry, Origin};
 
 // A row of at most eight values, with zeros behind it.
 fn eight(row: &[u64]) -> [u64; 8]
@@ -28,7 +29,7 @@ fn eight(row: &[u64]) -> [u64; 8]
     vals
 }
 
-// The splice that adds a row, and whether its key is shown already.
+// The splice that adds a row, and whether its key is shown already. No Option: the contract says the splice either way.
 #[derive(Clone, Copy)]
 pub struct Adding {
     pub shown: bool,
@@ -51,8 +52,7 @@ pub fn add(c: usize, m: usize, layer: &[u64], keys: &[u64], row: &[u64]) -> Addi
     let splice = Splice {
         i,
         gone: 0,
-        comes: 1,
-        entry,
+        comes: Some(entry),
     };
     Adding { shown, splice }
 }
@@ -61,12 +61,10 @@ pub fn add(c: usize, m: usize, layer: &[u64], keys: &[u64], row: &[u64]) -> Addi
 pub fn out(i: usize) -> Splice
     ensures { result ≡ out_of i }
 {
-    let entry = Entry::strike(0, 0);
     Splice {
         i,
         gone: 1,
-        comes: 0,
-        entry,
+        comes: None,
     }
 }
 
@@ -74,7 +72,7 @@ pub fn out(i: usize) -> Splice
 pub fn strike_base(c: usize, m: usize, layer: &[u64], keys: &[u64], s: usize) -> Splice
     requires { Ready c m layer.now keys.now × (s < length keys.now)
         × (struck s (layer_of c m layer.now) ≡ false) }
-    ensures { result ≡ strike_splice keys.now (layer_of c m layer.now) (base s) }
+    ensures { result ≡ strike_splice keys.now (layer_of c m layer.now) (Base s) }
 {
     let p = s as u64;
     let i = landing::landing(c, m, layer, p, Entry::STRIKE, 0);
@@ -84,8 +82,7 @@ pub fn strike_base(c: usize, m: usize, layer: &[u64], keys: &[u64], s: usize) ->
     Splice {
         i,
         gone,
-        comes: 1,
-        entry,
+        comes: Some(entry),
     }
 }
 
@@ -95,87 +92,41 @@ pub fn strike(c: usize, m: usize, layer: &[u64], keys: &[u64], r: usize) -> Spli
     ensures { let K = keys.now in let L = layer_of c m layer.now in
         result ≡ strike_splice K L (back (length K) L r) }
 {
-    let o = mark::origin_of(c, keys.len(), m, layer, r);
-    match o {
-        Back::Base(s) => strike_base(c, m, layer, keys, s),
-        Back::Added(i) => out(i),
-        Back::Refused(_) => out(0),
+    match mark::origin_of(c, keys.len(), m, layer, r) {
+        Origin::Base(s) => strike_base(c, m, layer, keys, s),
+        Origin::Added(i) => out(i),
     }
 }
 
-// A change: one value set, if `alone`, else a splice.
-#[derive(Clone, Copy)]
-pub struct Changing {
-    pub alone: bool,
-    pub value: Value,
-    pub splice: Splice,
-}
-
 // Changes column j of base row s to v: the change of that column gets the value, or a new one is entered in column order.
-fn change_base(
-    c: usize,
-    m: usize,
-    layer: &[u64],
-    keys: &[u64],
-    s: usize,
-    j: usize,
-    v: u64,
-) -> Changing
+fn change_base(c: usize, m: usize, layer: &[u64], keys: &[u64], s: usize, j: usize, v: u64) -> Move
     requires { Ready c m layer.now keys.now × (s < length keys.now) × (1 ≤ j) × (j < c) }
-    ensures { let L = layer_of c m layer.now in Plans c L (change_base s j (to v) L) (move_of result) }
+    ensures { let L = layer_of c m layer.now in Plans c L (change_base s j (to v) L) result }
 {
     let p = s as u64;
     let column = j as u64;
     let i = landing::landing(c, m, layer, p, column, 0);
-    let alone = landing::changes(c, m, layer, i, p, column);
+    if landing::changes(c, m, layer, i, p, column) {
+        return Move::Number(Value { i, j: 0, v });
+    }
     let entry = Entry::change(p, column, v);
-    let value = Value { i, j: 0, v };
-    let splice = Splice {
+    Move::Entries(Splice {
         i,
         gone: 0,
-        comes: 1,
-        entry,
-    };
-    Changing {
-        alone,
-        value,
-        splice,
-    }
-}
-
-// Value j of entry number i becomes v.
-fn own_value(i: usize, j: usize, v: u64) -> Changing
-    ensures { result ≡ value_of i j v }
-{
-    let value = Value { i, j, v };
-    let splice = out(i);
-    Changing {
-        alone: true,
-        value,
-        splice,
-    }
+        comes: Some(entry),
+    })
 }
 
 // Changes column j of row number r, which is shown, to v: an added row gets the value; a base row's change of j gets it, or
 // is entered in column order.
-pub fn change(
-    c: usize,
-    m: usize,
-    layer: &[u64],
-    keys: &[u64],
-    r: usize,
-    j: usize,
-    v: u64,
-) -> Changing
+pub fn change(c: usize, m: usize, layer: &[u64], keys: &[u64], r: usize, j: usize, v: u64) -> Move
     requires { Ready c m layer.now keys.now × (r < rows_after (length keys.now) (layer_of c m layer.now))
         × (1 ≤ j) × (j < c) }
     ensures { let L = layer_of c m layer.now in
-        Plans c L (change_row_no keys.now r j (to v) L) (move_of result) }
+        Plans c L (change_row_no keys.now r j (to v) L) result }
 {
-    let o = mark::origin_of(c, keys.len(), m, layer, r);
-    match o {
-        Back::Base(s) => change_base(c, m, layer, keys, s, j, v),
-        Back::Added(i) => own_value(i, j, v),
-        Back::Refused(_) => own_value(0, j, v),
+    match mark::origin_of(c, keys.len(), m, layer, r) {
+        Origin::Base(s) => change_base(c, m, layer, keys, s, j, v),
+        Origin::Added(i) => Move::Number(Value { i, j, v }),
     }
 }

@@ -9,17 +9,15 @@ use lib.ListN.{length}
 use lib.IntN.{ℤ, pos, nat_abs, ◌+ℤ◌}
 use lib.Dec.{leb}
 use borrow.Author.Tests.{le-leb, lt-leb, leb-true, leb-false}
+use Rattle.words.specs.declared.Cause.TheVariants.{BadArguments}
+use Rattle.std.specs.Prelude.{Ok, Err}
 use Rattle.order.proofs.Tests.{impossible}
-use Rattle.words.specs.declared.Answer.{Answer}
-use Rattle.words.specs.declared.Answer.TheVariants.{Done, Refused}
-use Rattle.words.specs.declared.Shifted.{Shifted}
-use Rattle.words.specs.declared.Shifted.TheVariants as shifted
 use Rattle.model.specs.Layer.{Layer}
 use Rattle.model.specs.Raw.{layer_of}
 use Rattle.model.specs.Form.{args_ok}
 use Rattle.model.specs.Position.{shift, row_of}
 use Rattle.model.specs.Refusals.{Test, refuse, first_met}
-use Rattle.words.specs.Answer.{refusal}
+use Rattle.words.specs.Answer.{refusal, Answer, Shifted}
 use Rattle.model.specs.Calls.{form_rows, form_answer, shift_answer, row_answer}
 use Rattle.theory.proofs.Stages.{onward}
 use Rattle.theory.proofs.Position.{row_never_negative}
@@ -38,22 +36,22 @@ module _ (c n m : ℕ) (xs : List ℕ) (s : ℕ) where
   L = layer_of c m xs
 
   -- the shift: refused past n, else as the form check refuses
-  pub shift_past : n < s → shifted.Refused (refusal 1 0) ≡ shift_answer c n m xs s
+  pub shift_past : n < s → Err (refusal BadArguments 0) ≡ shift_answer c n m xs s
   unfolding shift_answer
-  shift_past h = own_argument shifted.Refused c n m xs (leb s n) [] (shifted.By (shift L s)) (lt-leb s n h)
+  shift_past h = own_argument Err c n m xs (leb s n) [] (Ok (shift L s)) (lt-leb s n h)
 
   pub shift_within : s ≤ n
-      → shift_answer c n m xs s ≡ onward shifted.Refused (form_answer c n m xs) (shifted.By (shift L s))
+      → shift_answer c n m xs s ≡ onward Err (form_answer c n m xs) (Ok (shift L s))
   unfolding shift_answer
-  shift_within h = after_own shifted.Refused c n m xs (leb s n) [] (shifted.By (shift L s)) (le-leb s n h)
+  shift_within h = after_own Err c n m xs (leb s n) [] (Ok (shift L s)) (le-leb s n h)
 
   -- the row number: refused as the shift is
   abbrev row_by : Shifted → Answer
-  row_by (shifted.By d) = Done (row_of L s)
-  row_by (shifted.Refused x) = Refused x
+  row_by (Ok d) = Ok (row_of L s)
+  row_by (Err x) = Err x
 
   alike : (ts : List Test) (d : ℤ)
-      → first_met Refused ts (Done (row_of L s)) ≡ row_by (first_met shifted.Refused ts (shifted.By d))
+      → first_met Err ts (Ok (row_of L s)) ≡ row_by (first_met Err ts (Ok d))
   alike [] d = refl
   alike (refuse k p true ∷ ts) d = refl
   alike (refuse k p false ∷ ts) d = alike ts d
@@ -62,12 +60,12 @@ module _ (c n m : ℕ) (xs : List ℕ) (s : ℕ) where
   unfolding row_answer shift_answer
   row_shifted = alike (form_rows (args_ok c n m (length xs) && leb s n) c n m xs) (shift L s)
 
-  pub asked : {d : ℤ} → shift_answer c n m xs s ≡ shifted.By d → Asked c m xs s d
+  pub asked : {d : ℤ} → shift_answer c n m xs s ≡ Ok d → Asked c m xs s d
   asked {d} e = go (leb s n) refl
     where
       known : s ≤ n → (a : Answer) → form_answer c n m xs ≡ a
-          → onward shifted.Refused a (shifted.By (shift L s)) ≡ shifted.By d → Asked c m xs s d
-      known h (Done k) f g =
+          → onward Err a (Ok (shift L s)) ≡ Ok d → Asked c m xs s d
+      known h (Ok k) f g =
           let A = accepted c n m xs k f in
           let q : d ≡ shift L s = cc in
           record {
@@ -75,7 +73,7 @@ module _ (c n m : ℕ) (xs : List ℕ) (s : ℕ) where
             small = rw q (shift_small c m xs s A.held);
             row = row_never_negative c n L A.ordered s ∙ ap (λ (z : ℤ). pos s +ℤ z) (sym q);
           }
-      known h (Refused x) f g = impossible (cc)
+      known h (Err x) f g = impossible (cc)
 
       go : (t : Bool) → leb s n ≡ t → Asked c m xs s d
       go true f =

@@ -5,7 +5,7 @@ ghost use Rattle.std.specs.Prelude.{◌≡◌, true, ◌≤◌, pos, nat_abs, �
 ghost use Rattle.std.specs.Int.Signed.{non_neg};
 ghost use Rattle.model.specs.Calls.{shift_answer, row_answer};
 
-use words::{Answer, Refusal, Shifted};
+use words::{Cause, Refusal};
 
 // Position s moved by d, which takes it to no negative row.
 fn shifted(s: usize, d: i64) -> usize
@@ -16,30 +16,21 @@ fn shifted(s: usize, d: i64) -> usize
 }
 
 // The shift at base position s, 0 to n: adds up to and including s, less strikes before s.
-pub fn shift(c: usize, n: usize, m: usize, layer: &[u64], s: usize) -> Shifted
+pub fn shift(c: usize, n: usize, m: usize, layer: &[u64], s: usize) -> Result<i64, Refusal>
     ensures { result ≡ shift_answer c n m layer.now s }
 {
     if n < s {
-        return Shifted::Refused(Refusal {
-            number: 1,
-            place: 0,
-        });
+        return words::refused(Cause::BadArguments, 0);
     }
-    let f = form::check_layer(c, n, m, layer);
-    match f {
-        Answer::Done(_) => Shifted::By(tally::shift_at(c, m, layer, s)),
-        Answer::Refused(x) => Shifted::Refused(x),
-    }
+    form::check_layer(c, n, m, layer)?;
+    Ok(tally::shift_at(c, m, layer, s))
 }
 
 // The row number of base position s, 0 to n, is s and its shift, which is never a negative row: for a struck row that of
 // the next shown row, or the row count.
-pub fn row(c: usize, n: usize, m: usize, layer: &[u64], s: usize) -> Answer
+pub fn row(c: usize, n: usize, m: usize, layer: &[u64], s: usize) -> Result<usize, Refusal>
     ensures { result ≡ row_answer c n m layer.now s }
 {
-    let f = shift(c, n, m, layer, s);
-    match f {
-        Shifted::By(d) => Answer::Done(shifted(s, d)),
-        Shifted::Refused(x) => Answer::Refused(x),
-    }
+    let d = shift(c, n, m, layer, s)?;
+    Ok(shifted(s, d))
 }

@@ -1,7 +1,7 @@
 // Reads lines from standard input, prints what they say as they are read, and the table at the end.
 #![tactic(auto)]
 
-ghost use Rattle.std.specs.Prelude.{◌≡◌, ◌≤◌, length, pos, negsuc, IfOk, MatchResult};
+ghost use Rattle.std.specs.Prelude.{◌≡◌, ◌≤◌, length, Some, None, IfOk, MatchResult};
 ghost use Rattle.blocks.specs.Going.{Moved};
 
 use blocks::Went;
@@ -24,16 +24,13 @@ fn read_block(rt: &HostRuntime, block: &mut [u8; 4096]) -> io::Result<usize>
     rt.stdin().read(block)
 }
 
-// What a read answered, as a count: -1 where it failed, and only there.
-fn count(read: &io::Result<usize>) -> isize
+// How many bytes a read brought, or none where it failed.
+fn count(read: &io::Result<usize>) -> Option<usize>
     requires { IfOk read.now (λ n. n ≤ 4096) }
     ensures moved { Moved 4096 result }
-    ensures value { MatchResult read.now (λ n. result ≡ pos n) (λ e. result ≡ negsuc 0) }
+    ensures value { MatchResult read.now (λ n. result ≡ Some n) (λ e. result ≡ None) }
 {
-    match read {
-        Ok(n) => *n as isize,
-        Err(_) => -1,
-    }
+    read.as_ref().ok().copied()
 }
 
 // Says on standard error what failed and how, and that the program failed.

@@ -9,13 +9,13 @@ use mathlib.Core.List.{List, [], ◌∷◌, ◌++◌}
 use lib.ListN.{length, drop}
 use lib.Dec.{ltb, leb, eqb}
 use borrow.Author.Tests.{lt-ltb, le-ltb, le-leb, leb-true, ltb-false, eqb-true, eq-eqb, not-false}
+use Rattle.words.specs.declared.Cause.TheVariants.{BadArguments, ShortBuffer, BadFile}
+use Rattle.std.specs.Prelude.{Ok, Err}
 use Rattle.order.proofs.Tests.{and_l, and_r, or_false}
 use Rattle.little.specs.Little.{numbers_at}
 use Rattle.little.proofs.Numbers.{numbers_length}
 use Rattle.words.specs.declared.Refusal.{Refusal}
-use Rattle.words.specs.declared.Answer.{Answer}
-use Rattle.words.specs.declared.Answer.TheVariants.{Done, Refused}
-use Rattle.words.specs.Answer.{refusal}
+use Rattle.words.specs.Answer.{refusal, Answer}
 use Rattle.model.specs.Raw.{Held}
 use Rattle.model.specs.Form.{args_ok}
 use Rattle.model.specs.Refusals.{Test, refuse, first_met}
@@ -113,7 +113,7 @@ module _ (c n m : ℕ) (f : List ℕ) (ok : args_ok c n m 5120 ≡ true) where
   }
 
 raised_none : (x : Refusal) → raised 0 x ≡ x
-raised_none x = ap (λ (p : ℕ). refusal x.number p) (zero-add x.place)
+raised_none x = ap (λ (p : ℕ). refusal x.cause p) (zero-add x.place)
 
 module _ (f : List ℕ) where
   abbrev c : ℕ
@@ -125,17 +125,17 @@ module _ (f : List ℕ) where
   abbrev m : ℕ
   m = entries f
 
-  pub too_short : length f < 32 → Refused (refusal 12 0) ≡ file_answer f
+  pub too_short : length f < 32 → Err (refusal BadFile 0) ≡ file_answer f
   unfolding file_answer
   too_short h = rw (lt-ltb (length f) 32 h)
 
   module _ (long : 32 ≤ length f) where
-    pub past_limits : args_ok c n m 5120 ≡ false → Refused (refusal 1 0) ≡ file_answer f
+    pub past_limits : args_ok c n m 5120 ≡ false → Err (refusal BadArguments 0) ≡ file_answer f
     unfolding file_answer
     past_limits h = rw (le-ltb (length f) 32 long, ← args_any c n m, h)
 
     module _ (ok : args_ok c n m 5120 ≡ true) where
-      pub no_match : misfits f ≡ true → Refused (refusal 12 0) ≡ file_answer f
+      pub no_match : misfits f ≡ true → Err (refusal BadFile 0) ≡ file_answer f
       unfolding file_answer
       no_match h = rw (le-ltb (length f) 32 long, ← args_any c n m, ok, h)
 
@@ -143,26 +143,26 @@ module _ (f : List ℕ) where
       unfolding layer_numbers
       numbers_ok = args_numbers c n m f ok (length f - back f)
 
-      after_trailer : misfits f ≡ false → file_answer f ≡ onward Refused (form_answer c n m (layer_numbers f)) (Done m)
+      after_trailer : misfits f ≡ false → file_answer f ≡ onward Err (form_answer c n m (layer_numbers f)) (Ok m)
       unfolding file_answer
       after_trailer h =
           rw (le-ltb (length f) 32 long, ← args_any c n m, ok, h)
-          (form_row Refused 0 c n m (layer_numbers f) [] (Done m) numbers_ok
+          (form_row Err 0 c n m (layer_numbers f) [] (Ok m) numbers_ok
           ∙ plain (form_answer c n m (layer_numbers f)))
         where
-          plain : (a : Answer) → onward (λ x. Refused (raised 0 x)) a (Done m) ≡ onward Refused a (Done m)
-          plain (Done k) = refl
-          plain (Refused x) = ap Refused (raised_none x)
+          plain : (a : Answer) → onward (λ x. Err (raised 0 x)) a (Ok m) ≡ onward Err a (Ok m)
+          plain (Ok k) = refl
+          plain (Err x) = ap Err (raised_none x)
 
-      pub form_refused : misfits f ≡ false → (x : Refusal) → form_answer c n m (layer_numbers f) ≡ Refused x
-          → Refused x ≡ file_answer f
+      pub form_refused : misfits f ≡ false → (x : Refusal) → form_answer c n m (layer_numbers f) ≡ Err x
+          → Err x ≡ file_answer f
       form_refused h x e = sym (after_trailer h ∙ rw e)
 
-      pub form_done : misfits f ≡ false → (k : ℕ) → form_answer c n m (layer_numbers f) ≡ Done k → Done m ≡ file_answer f
+      pub form_done : misfits f ≡ false → (k : ℕ) → form_answer c n m (layer_numbers f) ≡ Ok k → Ok m ≡ file_answer f
       form_done h k e = sym (after_trailer h ∙ rw e)
 
       -- an empty layer has nothing to pass over
-      pub none_at_fault : back f ≡ 32 → entries f ≡ 0 → length f ≤ 288 → file_answer f ≡ Done 0
+      pub none_at_fault : back f ≡ 32 → entries f ≡ 0 → length f ≤ 288 → file_answer f ≡ Ok 0
       unfolding misfits
       none_at_fault b z l =
           let r : reach c m ≡ 32 = omega (arith, ap (λ (k : ℕ). k * (c + 2)) z, zero-mul (c + 2)) in
@@ -173,8 +173,8 @@ module _ (f : List ℕ) where
             le-ltb (back f + 256) (length f) (omega (arith, b, l)),
           ) in
           after_trailer h
-          ∙ ap (λ (a : Answer). onward Refused a (Done m)) (sym (empty_done c n m (layer_numbers f) z numbers_ok))
-          ∙ ap Done z
+          ∙ ap (λ (a : Answer). onward Err a (Ok m)) (sym (empty_done c n m (layer_numbers f) z numbers_ok))
+          ∙ ap Ok z
 
   -- an accepted file
   pub record Kept (k : ℕ) : Type 0 where
@@ -187,7 +187,7 @@ module _ (f : List ℕ) where
     pub trails : Fits (back f) (reach (columns f) (entries f)) (length f)
     pub formed : InForm (columns f) (rows f) (entries f) (layer_numbers f)
 
-  pub kept : (k : ℕ) → file_answer f ≡ Done k → Kept k
+  pub kept : (k : ℕ) → file_answer f ≡ Ok k → Kept k
   unfolding file_answer misfits
   kept k e =
       let w = stage_passed (file_rows f) (entries f) k e in
@@ -214,10 +214,10 @@ module _ (f : List ℕ) where
   numbers_from t = ap (λ (b : ℕ). numbers_at (width c m) (length f - b) f) t.says
 
 -- what is asked of an accepted file, and of a refused one
-pub when_done : {a : Answer} {k : ℕ} (v : ℕ) → a ≡ Done k → v ≡ if_done a v
+pub when_done : {a : Answer} {k : ℕ} (v : ℕ) → a ≡ Ok k → v ≡ if_done a v
 when_done v e = rw e
 
-pub when_refused : {a : Answer} {x : Refusal} (v : ℕ) → a ≡ Refused x → 0 ≡ if_done a v
+pub when_refused : {a : Answer} {x : Refusal} (v : ℕ) → a ≡ Err x → 0 ≡ if_done a v
 when_refused v e = rw e
 
 -- the trailer's numbers as code has read them
@@ -231,7 +231,7 @@ test_is f b m c eb em ec =
 -- an empty layer's file, as code has read and tested its trailer
 module _ (f : List ℕ) (b m c n : ℕ) (eb : b ≡ back f) (em : m ≡ entries f) (ec : c ≡ columns f) (en : n ≡ rows f) where
   pub told_empty : 32 ≤ length f → m ≡ 0 → (t : Bool) → t ≡ args_ok c n m 5120
-      → t && (eqb b 32 && leb (length f) 288) ≡ true → file_answer f ≡ Done 0
+      → t && (eqb b 32 && leb (length f) 288) ≡ true → file_answer f ≡ Ok 0
   told_empty long z t a h =
       let w = and_r t (eqb b 32 && leb (length f) 288) h in
       none_at_fault f long
@@ -256,7 +256,7 @@ module _ (f : List ℕ) (m c n : ℕ) (em : m ≡ entries f) (ec : c ≡ columns
       ∙ ap (form_answer (columns f) (rows f) (entries f)) (sym (numbers_from f (fits_file f h)))
 
 -- an accepted file of k entries, where c is read from its trailer
-module _ (f : List ℕ) (k : ℕ) (e : file_answer f ≡ Done k) (c : ℕ) (ec : c ≡ columns f) where
+module _ (f : List ℕ) (k : ℕ) (e : file_answer f ≡ Ok k) (c : ℕ) (ec : c ≡ columns f) where
   pub same_width : width c k ≡ width (columns f) (entries f)
   same_width = λ i. width (ec i) (sym (kept f k e).counted i)
 
@@ -279,21 +279,21 @@ module _ (f : List ℕ) (k : ℕ) (e : file_answer f ≡ Done k) (c : ℕ) (ec :
 -- the reader: as the check, then the room of the slice
 module _ (f : List ℕ) (len : ℕ) where
   abbrev short_buffer : List Test
-  short_buffer = refuse 11 0 (ltb len (width (columns f) (entries f))) ∷ []
+  short_buffer = refuse ShortBuffer 0 (ltb len (width (columns f) (entries f))) ∷ []
 
-  stages : load_answer f len ≡ onward Refused (file_answer f) (first_met Refused short_buffer (Done (entries f)))
+  stages : load_answer f len ≡ onward Err (file_answer f) (first_met Err short_buffer (Ok (entries f)))
   unfolding load_answer file_answer
-  stages = stage Refused (file_rows f) short_buffer (entries f) (Done (entries f))
+  stages = stage Err (file_rows f) short_buffer (entries f) (Ok (entries f))
 
-  pub load_refused : (x : Refusal) → file_answer f ≡ Refused x → Refused x ≡ load_answer f len
+  pub load_refused : (x : Refusal) → file_answer f ≡ Err x → Err x ≡ load_answer f len
   load_refused x e = sym (stages ∙ rw e)
 
-  module _ (k : ℕ) (e : file_answer f ≡ Done k) where
-    pub load_short : len < width (columns f) (entries f) → Refused (refusal 11 0) ≡ load_answer f len
+  module _ (k : ℕ) (e : file_answer f ≡ Ok k) where
+    pub load_short : len < width (columns f) (entries f) → Err (refusal ShortBuffer 0) ≡ load_answer f len
     load_short h = sym (stages ∙ rw (e, lt-ltb len (width (columns f) (entries f)) h))
 
-    pub load_enough : width (columns f) (entries f) ≤ len → Done k ≡ load_answer f len
-    load_enough h = sym (stages ∙ rw (e, le-ltb len (width (columns f) (entries f)) h) (ap Done (kept f k e).counted))
+    pub load_enough : width (columns f) (entries f) ≤ len → Ok k ≡ load_answer f len
+    load_enough h = sym (stages ∙ rw (e, le-ltb len (width (columns f) (entries f)) h) (ap Ok (kept f k e).counted))
 
 -- what the slice holds after an answer
 pub load_after : (f old : List ℕ) (r : Answer) → r ≡ load_answer f (length old)
@@ -301,11 +301,11 @@ pub load_after : (f old : List ℕ) (r : Answer) → r ≡ load_answer f (length
 load_after f old r e = ap (λ (a : Answer). written a (layer_numbers f) old) e
 
 -- an empty layer leaves the slice as it was
-pub load_none : (f old : List ℕ) → file_answer f ≡ Done 0 → (Done 0 ≡ load_answer f (length old)) × (old ≡ load_slice f old)
+pub load_none : (f old : List ℕ) → file_answer f ≡ Ok 0 → (Ok 0 ≡ load_answer f (length old)) × (old ≡ load_slice f old)
 unfolding layer_numbers numbers_at
 load_none f old e =
     let w : width (columns f) (entries f) ≡ 0 =
     omega (arith, ap (λ (k : ℕ). k * (columns f + 2)) (kept f 0 e).counted, zero-mul (columns f + 2)) in
     let n : layer_numbers f ≡ [] = ap (λ (k : ℕ). numbers_at k (length f - back f) f) w in
     let a = load_enough f (length old) 0 e (omega (arith, w)) in
-    (a, sym (ap (λ (xs : List ℕ). xs ++ drop (length xs) old) n) ∙ load_after f old (Done 0) a)
+    (a, sym (ap (λ (xs : List ℕ). xs ++ drop (length xs) old) n) ∙ load_after f old (Ok 0) a)

@@ -1,11 +1,10 @@
 // The check of a file's bytes, where they stand.
 #![tactic(auto)]
 
-ghost use Rattle.std.specs.Prelude.{◌≡◌, true, ◌≤◌, length};
-ghost use Rattle.words.specs.declared.Answer.TheVariants.{Done};
+ghost use Rattle.std.specs.Prelude.{◌≡◌, true, ◌≤◌, length, Ok};
 ghost use Rattle.format.specs.File.{back, entries, columns, rows, file_answer};
 
-use words::Answer;
+use words::{Cause, Refusal};
 
 // No layer has more numbers: 512 entries of ten.
 const MOST_NUMBERS: usize = 5120;
@@ -36,12 +35,12 @@ fn trailer_of(file: &[u8]) -> End
 }
 
 // The check of any file, with the pass over its entries. It is a call: it is too large to stand in line in each of its callers.
-pub fn whole(file: &[u8]) -> Answer
+pub fn whole(file: &[u8]) -> Result<usize, Refusal>
     ensures { result ≡ file_answer file.now }
 {
     let len = file.len();
     if len < 32 {
-        return Answer::refused(12, 0);
+        return words::refused(Cause::BadFile, 0);
     }
     let t = trailer_of(file);
     let back = t.back;
@@ -49,21 +48,19 @@ pub fn whole(file: &[u8]) -> Answer
     let c = t.columns as usize;
     let n = t.rows as usize;
     if !form::args_ok(c, n, m, MOST_NUMBERS) {
-        return Answer::refused(1, 0);
+        return words::refused(Cause::BadArguments, 0);
     }
     let reach = 32 + 8 * (m * (c + 2));
     if (back != reach as u64) | ((len < reach) | (reach + 256 < len)) {
-        return Answer::refused(12, 0);
+        return words::refused(Cause::BadFile, 0);
     }
-    match form::judge(n, m, sift::scan_file(c, n, m, len - reach, file)) {
-        Answer::Refused(x) => Answer::Refused(x),
-        Answer::Done(_) => Answer::Done(m),
-    }
+    form::judge(n, m, sift::scan_file(c, n, m, len - reach, file))?;
+    Ok(m)
 }
 
 // An accepted file of an empty layer, by its trailer alone. It is small enough to stand in line, so an empty layer's file is answered with no call.
 pub fn empty(file: &[u8]) -> bool
-    ensures { result ≡ true → file_answer file.now ≡ Done 0 }
+    ensures { result ≡ true → file_answer file.now ≡ Ok 0 }
 {
     let bytes = file.len();
     if bytes < 32 {
@@ -81,11 +78,11 @@ pub fn empty(file: &[u8]) -> bool
 }
 
 // The file check; it answers the number of entries.
-pub fn check(file: &[u8]) -> Answer
+pub fn check(file: &[u8]) -> Result<usize, Refusal>
     ensures { result ≡ file_answer file.now }
 {
     if empty(file) {
-        return Answer::Done(0);
+        return Ok(0);
     }
     whole(file)
 }

@@ -6,11 +6,10 @@ use mathlib.Core.Path.{◌≡◌, refl, sym, ap, ◌∙◌}
 use mathlib.Core.Bool.{true, false}
 use mathlib.Core.List.{List, [], ◌∷◌}
 use lib.ListN.{length}
+use Rattle.std.specs.Prelude.{Ok, Err}
 use Rattle.order.proofs.Tests.{impossible}
 use Rattle.words.specs.declared.Refusal.{Refusal}
-use Rattle.words.specs.declared.Answer.{Answer}
-use Rattle.words.specs.declared.Answer.TheVariants.{Done, Refused}
-use Rattle.words.specs.Answer.{number_of}
+use Rattle.words.specs.Answer.{cause_number, number_of, Answer}
 use Rattle.model.specs.Row.{Table, keys, column}
 use Rattle.model.specs.Layer.{Layer}
 use Rattle.model.specs.Raw.{layer_of, flat}
@@ -41,24 +40,24 @@ use Rattle.question.proofs.Typed.{reached}
 -- tests with numbers up to 4 refuse with such a number
 abbrev UpToFour : List Test → Type 0
 UpToFour [] = Unit {0}
-UpToFour (refuse n p t ∷ ts) = (n ≤ 4) × UpToFour ts
+UpToFour (refuse k p t ∷ ts) = (cause_number k ≤ 4) × UpToFour ts
 
-low : (ts : List Test) → UpToFour ts → (z : Refusal) → first_met Refused ts (Done 0) ≡ Refused z → z.number ≤ 4
+low : (ts : List Test) → UpToFour ts → (z : Refusal) → first_met {A = Answer} Err ts (Ok 0) ≡ Err z → cause_number z.cause ≤ 4
 low [] u z h = impossible (cc)
-low (refuse n p true ∷ ts) u z h = let w : z.number ≡ n = cc in omega (arith, w, u.0)
-low (refuse n p false ∷ ts) u z h = low ts u.1 z h
+low (refuse k p true ∷ ts) u z h = let w : z.cause ≡ k = cc in omega (arith, ap cause_number w, u.0)
+low (refuse k p false ∷ ts) u z h = low ts u.1 z h
 
 -- a refusal of the first four answers for the move
 by_move : (c : ℕ) (K : List ℕ) (mx : ℕ) (xs : List ℕ) (my : ℕ) (y : List ℕ) (z : Refusal)
-    → first_met Refused (pair_rows c K mx xs my y) (Done 0) ≡ Refused z → Refused z ≡ move_answer c K mx xs my y
+    → first_met {A = Answer} Err (pair_rows c K mx xs my y) (Ok 0) ≡ Err z → Err z ≡ move_answer c K mx xs my y
 unfolding move_answer pair_form pair_rows
 by_move c K mx xs my y z e =
-    stage_refuses Refused (pair_rows c K mx xs my y) (move_rows (length K) (layer_of c mx xs) (layer_of c my y)) 0 (Done mx) z e
+    stage_refuses Err (pair_rows c K mx xs my y) (move_rows (length K) (layer_of c mx xs) (layer_of c my y)) 0 (Ok mx) z e
 
 -- I typed x against the rows of my layer, which stands in `raw`; the call was accepted and left `new`, of k entries. Then the
 -- move past theirs, which stands in y, answered q and left x'.
 module _ (c : ℕ) (T : Table) (m : ℕ) (raw : List ℕ) (x : Step) (r : Answer) (new : List ℕ)
-    (lent : Lent c T x) (typed : Allows c m raw T x r new) (k : ℕ) (done : r ≡ Done k)
+    (lent : Lent c T x) (typed : Allows c m raw T x r new) (k : ℕ) (done : r ≡ Ok k)
     (my : ℕ) (y : List ℕ) (q : Answer) (x' : List ℕ) (o : Moved c (keys T) k new my y q x') where
   abbrev K : List ℕ
   K = keys T
@@ -72,7 +71,7 @@ module _ (c : ℕ) (T : Table) (m : ℕ) (raw : List ℕ) (x : Step) (r : Answer
   abbrev Y : Layer
   Y = layer_of c my y
 
-  answered : step_answer c m raw T x ≡ Done k
+  answered : step_answer c m raw T x ≡ Ok k
   answered = sym typed.0 ∙ done
 
   A : Accepts c m raw T x k
@@ -84,7 +83,7 @@ module _ (c : ℕ) (T : Table) (m : ℕ) (raw : List ℕ) (x : Step) (r : Answer
       ∙ edit_layer c m raw T x k lent answered
 
   -- the move was accepted
-  module _ (past : q ≡ Done k) where
+  module _ (past : q ≡ Ok k) where
     M : Moves c K k new my y k
     M = moves c K k new my y k (sym o.0 ∙ past)
 
@@ -117,27 +116,27 @@ module _ (c : ℕ) (T : Table) (m : ℕ) (raw : List ℕ) (x : Step) (r : Answer
 
     -- and through what combining theirs and mine leaves
     pub combined_reads : (out : List ℕ) (a : Answer) (out' : List ℕ) → Combined c K my y k x' out a out'
-        → (n : ℕ) → a ≡ Done n → read T (layer_of c n out') ≡ U
+        → (n : ℕ) → a ≡ Ok n → read T (layer_of c n out') ≡ U
     combined_reads out a out' p n e = (left c T my y k x' out a out' p n e).reads
 
   -- the move was refused with 8: one of the three cases holds, and no lent number changed
   pub refused_eight : number_of q ≡ 8 → Conflicting X Y × (x' ≡ new)
   unfolding pair_form pair_rows
-  refused_eight h = (rw holds at (go (first_met Refused (pair_rows c K k new my y) (Done 0)) refl), kept q refl)
+  refused_eight h = (rw holds at (go (first_met Err (pair_rows c K k new my y) (Ok 0)) refl), kept q refl)
     where
       six : UpToFour (pair_rows c K k new my y)
       six = (omega arith, (omega arith, (omega arith, (omega arith, (omega arith, (omega arith, tt))))))
 
-      go : (a : Answer) → first_met Refused (pair_rows c K k new my y) (Done 0) ≡ a → Conflicting (layer_of c k new) Y
-      go (Done l) e =
+      go : (a : Answer) → first_met Err (pair_rows c K k new my y) (Ok 0) ≡ a → Conflicting (layer_of c k new) Y
+      go (Ok l) e =
           let z : 0 ≡ l = (stage_passed (pair_rows c K k new my y) 0 l e).1 in
-          (eight_exactly c K k new my y (e ∙ ap Done (sym z)) q x' o).0 h
-      go (Refused z) e =
-          let w : q ≡ Refused z =
+          (eight_exactly c K k new my y (e ∙ ap Ok (sym z)) q x' o).0 h
+      go (Err z) e =
+          let w : q ≡ Err z =
           o.0 ∙ sym (by_move c K k new my y z e) in
           absurd (omega (arith, h, ap number_of w, low (pair_rows c K k new my y) six z e))
 
       kept : (a : Answer) → q ≡ a → x' ≡ new
-      kept (Done l) e = absurd (omega (arith, h, ap number_of e))
-      kept (Refused z) e =
+      kept (Ok l) e = absurd (omega (arith, h, ap number_of e))
+      kept (Err z) e =
           o.1 ∙ ap (λ (a : Answer). written a (flat c (moved_layer c k new my y)) new) (sym o.0 ∙ e)

@@ -4,9 +4,9 @@
 use Prim.Native.Nat.{ℕ}
 use mathlib.Core.Path.{◌≡◌, sym, ap, ◌∙◌}
 use mathlib.Core.List.{List, Memᴰ as Mem}
+use Rattle.words.specs.Answer.{Answer}
+use Rattle.std.specs.Prelude.{Ok}
 use Rattle.order.specs.Lists.{count}
-use Rattle.words.specs.declared.Answer.{Answer}
-use Rattle.words.specs.declared.Answer.TheVariants.{Done}
 use Rattle.model.specs.Row.{Table, keys}
 use Rattle.model.specs.Cell.{CellEdit}
 use Rattle.model.specs.Layer.{Edit, at, change, Layer, changes_cell}
@@ -25,8 +25,8 @@ use Rattle.joined.proofs.Promises.{left}
 
 -- X stands in x, theirs, Y, in y; the move past it was accepted and left x', and combining Y with that was accepted and left out'
 module _ (c : ℕ) (T : Table) (mx : ℕ) (x : List ℕ) (my : ℕ) (y : List ℕ) (q : Answer) (x' : List ℕ)
-    (o : Moved c (keys T) mx x my y q x') (k : ℕ) (past : q ≡ Done k)
-    (out : List ℕ) (a : Answer) (out' : List ℕ) (p : Combined c (keys T) my y mx x' out a out') (n : ℕ) (done : a ≡ Done n) where
+    (o : Moved c (keys T) mx x my y q x') (k : ℕ) (past : q ≡ Ok k)
+    (out : List ℕ) (a : Answer) (out' : List ℕ) (p : Combined c (keys T) my y mx x' out a out') (n : ℕ) (done : a ≡ Ok n) where
   abbrev X : Layer
   X = layer_of c mx x
 

@@ -8,12 +8,12 @@ use mathlib.Core.List.{List, [], ◌∷◌}
 use lib.ListN.{length}
 use lib.Dec.{ltb}
 use borrow.Author.Tests.{lt-ltb, le-ltb, ltb-true, ltb-false}
+use Rattle.words.specs.declared.Cause.TheVariants.{BadArguments, ShortBuffer}
+use Rattle.std.specs.Prelude.{Ok, Err}
 use Rattle.words.specs.declared.Refusal.{Refusal}
-use Rattle.words.specs.declared.Answer.{Answer}
-use Rattle.words.specs.declared.Answer.TheVariants.{Done, Refused}
 use Rattle.model.specs.Raw.{layer_of}
 use Rattle.model.specs.Refusals.{Test, refuse, first_met}
-use Rattle.words.specs.Answer.{refusal}
+use Rattle.words.specs.Answer.{refusal, Answer}
 use Rattle.model.specs.Calls.{form_answer, shown_column, written, read_answer, read_slice}
 use Rattle.theory.proofs.Stages.{never_done, onward, reached, stage_passed}
 use Rattle.form.proofs.Accepted.{Accepted, accepted}
@@ -28,24 +28,24 @@ module _ (c m : ℕ) (raw xs : List ℕ) (j len : ℕ) where
 
   -- the call's own row: the room of the buffer
   abbrev short_buffer : List Test
-  short_buffer = refuse 11 0 (ltb len rows) ∷ []
+  short_buffer = refuse ShortBuffer 0 (ltb len rows) ∷ []
 
-  pub column_refused : c ≤ j → Refused (refusal 1 0) ≡ read_answer c m raw xs j len
+  pub column_refused : c ≤ j → Err (refusal BadArguments 0) ≡ read_answer c m raw xs j len
   unfolding read_answer
-  column_refused h = own_argument Refused c (length xs) m raw (ltb j c) short_buffer (Done rows) (le-ltb j c h)
+  column_refused h = own_argument Err c (length xs) m raw (ltb j c) short_buffer (Ok rows) (le-ltb j c h)
 
   after_form_lem : j < c
       → read_answer c m raw xs j len
-      ≡ onward Refused (form_answer c (length xs) m raw) (first_met Refused short_buffer (Done rows))
+      ≡ onward Err (form_answer c (length xs) m raw) (first_met Err short_buffer (Ok rows))
   unfolding read_answer
-  after_form_lem h = after_own Refused c (length xs) m raw (ltb j c) short_buffer (Done rows) (lt-ltb j c h)
+  after_form_lem h = after_own Err c (length xs) m raw (ltb j c) short_buffer (Ok rows) (lt-ltb j c h)
 
-  pub form_refused : (x : Refusal) → j < c → form_answer c (length xs) m raw ≡ Refused x
-      → Refused x ≡ read_answer c m raw xs j len
+  pub form_refused : (x : Refusal) → j < c → form_answer c (length xs) m raw ≡ Err x
+      → Err x ≡ read_answer c m raw xs j len
   form_refused x h e = sym (after_form_lem h ∙ rw e)
 
   -- the form check counts the rows that are shown
-  module _ (k : ℕ) (h : j < c) (e : form_answer c (length xs) m raw ≡ Done k) where
+  module _ (k : ℕ) (h : j < c) (e : form_answer c (length xs) m raw ≡ Ok k) where
     took : Accepted c (length xs) m raw k
     took = accepted c (length xs) m raw k e
 
@@ -55,10 +55,10 @@ module _ (c m : ℕ) (raw xs : List ℕ) (j len : ℕ) where
     pub counted : rows ≡ k
     counted = rows_shown j xs (layer_of c m raw) can_show ∙ sym took.shown
 
-    pub short : len < k → Refused (refusal 11 0) ≡ read_answer c m raw xs j len
+    pub short : len < k → Err (refusal ShortBuffer 0) ≡ read_answer c m raw xs j len
     short l = sym (after_form_lem h ∙ rw (e, lt-ltb len rows (omega (arith, counted))))
 
-    pub enough : k ≤ len → Done k ≡ read_answer c m raw xs j len
+    pub enough : k ≤ len → Ok k ≡ read_answer c m raw xs j len
     enough l = sym (after_form_lem h ∙ rw (e, le-ltb len rows (omega (arith, counted)), counted))
 
     -- what the reader asks is what the form check has left
@@ -76,7 +76,7 @@ module _ (c m : ℕ) (raw xs : List ℕ) (j len : ℕ) where
     pub rows_are : length (shown_column c m raw xs j) ≡ k
     pub within : k ≤ len
 
-  pub done : (k : ℕ) → read_answer c m raw xs j len ≡ Done k → Finished k
+  pub done : (k : ℕ) → read_answer c m raw xs j len ≡ Ok k → Finished k
   done k d = by (ltb j c) refl
     where
       by : (b : Bool) → ltb j c ≡ b → Finished k

@@ -7,7 +7,7 @@ use Prim.Native.Nat.{ℕ}
 use contract.Lifetimes.{Lfts}
 use denote.Triple.Clauses.{AtExit}
 use borrow.Fn.Kinds.{Dens, ended_of}
-use Rattle.words.specs.declared.Answer.{Answer}
+use Rattle.words.specs.Answer.{Answer}
 use Rattle.read.proofs.answer.Kinds as answer_kinds
 use Rattle.read.proofs.answer.Reads as answer_contract
 use Rattle.read.proofs.read.Kinds as read_kinds

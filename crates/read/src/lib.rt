@@ -4,33 +4,41 @@
 ghost use Rattle.std.specs.Prelude.{◌≡◌, length};
 ghost use Rattle.model.specs.Calls.{read_answer, read_slice};
 
-use words::Answer;
+use words::{Cause, Refusal};
 
 // What reading column j into a buffer of len numbers answers.
-pub fn answer(c: usize, m: usize, layer: &[u64], base: &[u64], j: usize, len: usize) -> Answer
+pub fn answer(
+    c: usize,
+    m: usize,
+    layer: &[u64],
+    base: &[u64],
+    j: usize,
+    len: usize,
+) -> Result<usize, Refusal>
     ensures { result ≡ read_answer c m layer.now base.now j len }
 {
     if c <= j {
-        return Answer::refused(1, 0);
+        return words::refused(Cause::BadArguments, 0);
     }
-    match form::check_layer(c, base.len(), m, layer) {
-        Answer::Refused(x) => Answer::Refused(x),
-        Answer::Done(rows) => {
-            if len < rows {
-                return Answer::refused(11, 0);
-            }
-            Answer::Done(rows)
-        }
+    let rows = form::check_layer(c, base.len(), m, layer)?;
+    if len < rows {
+        return words::refused(Cause::ShortBuffer, 0);
     }
+    Ok(rows)
 }
 
 // Reads column j of the base through the layer of m entries: writes it to the buffer's front, and answers the row count.
-pub fn read(c: usize, m: usize, layer: &[u64], base: &[u64], j: usize, out: &mut [u64]) -> Answer
+pub fn read(
+    c: usize,
+    m: usize,
+    layer: &[u64],
+    base: &[u64],
+    j: usize,
+    out: &mut [u64],
+) -> Result<usize, Refusal>
     ensures { let L = layer.now in let B = base.now in let O = out.old in
         (result ≡ read_answer c m L B j (length O)) × (out.new ≡ read_slice c m L B j O) }
 {
-    match answer(c, m, layer, base, j, out.len()) {
-        Answer::Refused(why) => Answer::Refused(why),
-        Answer::Done(_) => Answer::Done(column::read_part(c, m, layer, base, j, out)),
-    }
+    answer(c, m, layer, base, j, out.len())?;
+    Ok(column::read_part(c, m, layer, base, j, out))
 }

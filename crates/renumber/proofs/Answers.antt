@@ -10,11 +10,11 @@ use lib.ListN.{length, take, length-map}
 use lib.Seq.{length-take-le}
 use lib.Dec.{leb}
 use borrow.Author.Tests.{leb-true, leb-false, le-leb, lt-leb}
+use Rattle.words.specs.declared.Cause.TheVariants.{BadArguments, NoSuchRow}
+use Rattle.std.specs.Prelude.{Ok, Err}
 use Rattle.order.proofs.Tests.{and_l, and_r}
 use Rattle.words.specs.declared.Refusal.{Refusal}
-use Rattle.words.specs.declared.Answer.{Answer}
-use Rattle.words.specs.declared.Answer.TheVariants.{Done, Refused}
-use Rattle.words.specs.Answer.{refusal}
+use Rattle.words.specs.Answer.{refusal, Answer}
 use Rattle.model.specs.Row.{Table, key, keys, columnwise}
 use Rattle.model.specs.Layer.{Layer, rows_after}
 use Rattle.model.specs.Raw.{layer_of}
@@ -72,24 +72,24 @@ module _ (c n w m : ℕ) (raw B : List ℕ) (r g : ℕ) where
   answer = renumber_over own c m raw T r g
 
   abbrev rest : Answer
-  rest = first_met Refused (renumber_rows c (length raw) T L r g) (Done (length M))
+  rest = first_met Err (renumber_rows c (length raw) T L r g) (Ok (length M))
 
   key_count : length (keys T) ≡ n
   key_count = length-map T key ∙ columnwise_length c n w B
 
-  pub bad_args_lem : args_ok c n m (length raw) ≡ false → Refused (refusal 1 0) ≡ answer
+  pub bad_args_lem : args_ok c n m (length raw) ≡ false → Err (refusal BadArguments 0) ≡ answer
   unfolding renumber_over
   bad_args_lem h =
       let e : args_ok c (length (keys T)) m (length raw) ≡ false = ap (λ (k : ℕ). args_ok c k m (length raw)) key_count ∙ h in
       rw e
 
-  pub bad_table : own ≡ false → Refused (refusal 1 0) ≡ answer
+  pub bad_table : own ≡ false → Err (refusal BadArguments 0) ≡ answer
   unfolding renumber_over
-  bad_table h = own_argument Refused c m raw (keys T) own (renumber_rows c (length raw) T L r g) (Done (length M)) h
+  bad_table h = own_argument Err c m raw (keys T) own (renumber_rows c (length raw) T L r g) (Ok (length M)) h
 
-  stages : own ≡ true → answer ≡ onward Refused (ready_answer c m raw (keys T)) rest
+  stages : own ≡ true → answer ≡ onward Err (ready_answer c m raw (keys T)) rest
   unfolding renumber_over
-  stages h = after_own Refused c m raw (keys T) own (renumber_rows c (length raw) T L r g) (Done (length M)) h
+  stages h = after_own Err c m raw (keys T) own (renumber_rows c (length raw) T L r g) (Ok (length M)) h
 
   -- The table is lent whole, and K are its first n numbers: these are its keys.
   module _ (some : 1 ≤ c) (h : own ≡ true) where
@@ -109,18 +109,18 @@ module _ (c n w m : ℕ) (raw B : List ℕ) (r g : ℕ) where
       count_are : length K ≡ n
       count_are = ap length first ∙ length-take-le n B in_slice
 
-      staged : answer ≡ onward Refused (ready_answer c m raw K) rest
-      staged = stages h ∙ ap (λ (Z : List ℕ). onward Refused (ready_answer c m raw Z) rest) keys_are
+      staged : answer ≡ onward Err (ready_answer c m raw K) rest
+      staged = stages h ∙ ap (λ (Z : List ℕ). onward Err (ready_answer c m raw Z) rest) keys_are
 
-      pub refused_before : (x : Refusal) → ready_answer c m raw K ≡ Refused x → Refused x ≡ answer
+      pub refused_before : (x : Refusal) → ready_answer c m raw K ≡ Err x → Err x ≡ answer
       refused_before = as_before c m raw K rest staged
 
       -- past the first four refusals, with k rows shown
-      module _ (k : ℕ) (passed : ready_answer c m raw K ≡ Done k) where
+      module _ (k : ℕ) (passed : ready_answer c m raw K ≡ Ok k) where
         shown : k ≡ rows_after (length (keys T)) L
         shown = rows_shown c m raw K k passed ∙ ap (λ (Z : List ℕ). rows_after (length Z) L) (sym keys_are)
 
-        pub no_row : k ≤ r → Refused (refusal 5 0) ≡ answer
+        pub no_row : k ≤ r → Err (refusal NoSuchRow 0) ≡ answer
         no_row l =
             let e : leb (rows_after (length (keys T)) L) r ≡ true = le-leb _ r (omega (arith, shown)) in
             rw e at (go_on_lem c m raw K rest staged k passed)

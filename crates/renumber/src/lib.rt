@@ -7,7 +7,7 @@ ghost use Rattle.model.specs.Raw.{layer_of};
 ghost use Rattle.model.specs.Edits.{renumber_row};
 ghost use Rattle.model.specs.Calls.{edited, renumber_over, renumber_answer, renumber_slice};
 
-use words::Answer;
+use words::{Cause, Refusal};
 
 // A table is lent whole: n rows, whose c columns start w numbers apart in a slice of len numbers.
 fn lent_whole(c: usize, n: usize, w: usize, len: usize) -> bool
@@ -27,27 +27,23 @@ pub fn renumber_apart(
     table: &[u64],
     r: usize,
     g: u64,
-) -> Answer
+) -> Result<usize, Refusal>
     ensures { let L = layer.old in let B = table.now in let T = columnwise c n w B in
         let answer = renumber_over (leb n w && leb (c * w) (length B)) c m L T r g in
         (result ≡ answer) × (layer.new ≡ edited c m answer (renumber_row T r g (layer_of c m L)) L) }
 {
     if !form::args_ok(c, n, m, layer.len()) {
-        return Answer::refused(1, 0);
+        return words::refused(Cause::BadArguments, 0);
     }
     if !lent_whole(c, n, w, table.len()) {
-        return Answer::refused(1, 0);
+        return words::refused(Cause::BadArguments, 0);
     }
     let keys = &table[..n];
-    match fit::ready(c, m, layer, keys) {
-        Answer::Refused(x) => Answer::Refused(x),
-        Answer::Done(rows) => {
-            if rows <= r {
-                return Answer::refused(5, 0);
-            }
-            reseat::reseat(c, w, m, layer, keys, table, r, g)
-        }
+    let rows = fit::ready(c, m, layer, keys)?;
+    if rows <= r {
+        return words::refused(Cause::NoSuchRow, 0);
     }
+    reseat::reseat(c, w, m, layer, keys, table, r, g)
 }
 
 // Renumber row number r to g, over a table of n rows whose c columns stand end to end: the row's other values stay as they
@@ -60,7 +56,7 @@ pub fn renumber(
     table: &[u64],
     r: usize,
     g: u64,
-) -> Answer
+) -> Result<usize, Refusal>
     ensures { let L = layer.old in let B = table.now in
         (result ≡ renumber_answer c n m L B r g) × (layer.new ≡ renumber_slice c n m L B r g) }
 {

@@ -6,32 +6,32 @@ ghost use Rattle.reply.specs.Reply.{entered as Reply·entered};
 
 use base::{Counts, Reply};
 use text::Said;
-use words::Answer;
+use words::Refusal;
 
 // The reply to an edit line whose edit answered so.
-pub fn entered(counts: Counts, answer: Answer) -> Reply
+pub fn entered(counts: Counts, answer: Result<usize, Refusal>) -> Reply
     requires { counts.lines < 9223372036854775808 }
     ensures { result ≡ Reply·entered counts answer }
 {
     let lines = counts.lines + 1;
     match answer {
-        Answer::Done(k) => Reply {
+        Ok(k) => Reply {
             counts: Counts {
                 rows: counts.rows,
                 entries: k,
                 edited: true,
                 lines,
             },
-            said: Said::Nothing,
+            said: None,
         },
-        Answer::Refused(x) => Reply {
+        Err(x) => Reply {
             counts: Counts {
                 rows: counts.rows,
                 entries: counts.entries,
                 edited: true,
                 lines,
             },
-            said: Said::Refused(x.number),
+            said: Some(Said::Refused(x.cause)),
         },
     }
 }

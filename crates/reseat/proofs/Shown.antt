@@ -21,14 +21,14 @@ use lib.ListN.{
 use lib.Seq.{set-append_left, take_at}
 use lib.Dec.{ltb, eqb}
 use borrow.Author.Tests.{eqb-true, ne_eqb, le-ltb}
+use Rattle.words.specs.declared.Cause.TheVariants.{KeyShown}
+use Rattle.std.specs.Prelude.{Ok, Err}
 use Rattle.order.specs.Lists.{without}
 use Rattle.order.proofs.Tests.{not_passed}
 use Rattle.order.proofs.Members.{any_mem, map_mem}
 use Rattle.order.proofs.Ascending.{AscFrom, At, at_mem, get_or_at}
 use Rattle.order.proofs.Edited.{map_at, without_map, any_without, filter_without}
-use Rattle.words.specs.declared.Answer.{Answer}
-use Rattle.words.specs.declared.Answer.TheVariants.{Done, Refused}
-use Rattle.words.specs.Answer.{refusal}
+use Rattle.words.specs.Answer.{refusal, Answer}
 use Rattle.model.specs.Row.{Row, Table, key, keys, with_key, columnwise}
 use Rattle.model.specs.Layer.{Layer, rows_after}
 use Rattle.model.specs.Raw.{Held, layer_of, room}
@@ -45,6 +45,7 @@ use Rattle.theory.proofs.Renumbered.{with_key_lem}
 use Rattle.theory.proofs.Columnwise.{columnwise_keys, columnwise_wide}
 use Rattle.store.proofs.Laws.{room_of}
 use Rattle.splice.specs.Splice.{room_answer, if_done}
+use Rattle.enter.specs.declared.Move.{Move}
 use Rattle.enter.specs.Move.{in_key_order, Within, entered, count_after}
 use Rattle.write.specs.Plans.{Plans}
 use Rattle.landing.proofs.Known.{Known, known}
@@ -160,7 +161,7 @@ module _ {c w m : ℕ} {raw K B : List ℕ} {r : ℕ} (A : Asked c w m raw K B r
   size = N.acc.size
 
   -- its own key: the layer as it is
-  own_same : raw ≡ edited c m (Done m) L raw
+  own_same : raw ≡ edited c m (Ok m) L raw
   own_same =
       let z : (m - length L) * (c + 2) ≡ 0 = ap (λ (n : ℕ). n * (c + 2)) (sub_same size) ∙ zero-mul (c + 2) in
       let t : max m (length L) ≡ m = omega (arith, size) in
@@ -169,16 +170,16 @@ module _ {c w m : ℕ} {raw K B : List ℕ} {r : ℕ} (A : Asked c w m raw K B r
       sub_same : length L ≡ m → m - length L ≡ 0
       sub_same e = omega (arith, e)
 
-  pub own_ends : key q ≡ g → Ends (Done m) raw
+  pub own_ends : key q ≡ g → Ends (Ok m) raw
   own_ends e =
       let h = N.acc.held in
       let s = renumber_own_lem T N r g shown some wide e in
       let f : ltb (room c (length raw)) (length L) ≡ false =
       le-ltb (room c (length raw)) (length L) (omega (arith, size, room_of c (length raw) m h.entries h.room)) in
-      (rw (alone e, s, f) (ap Done (sym size)), rw s own_same)
+      (rw (alone e, s, f) (ap Ok (sym size)), rw s own_same)
 
   -- another row has it
-  pub shown_ends : (key q ≡ g → ⊥) → shown_key g (keys_after (keys T) L) ≡ true → (x : Answer) → x ≡ Refused (refusal 7 0)
+  pub shown_ends : (key q ≡ g → ⊥) → shown_key g (keys_after (keys T) L) ≡ true → (x : Answer) → x ≡ Err (refusal KeyShown 0)
       → Ends x raw
   shown_ends ne h x e =
       let f : shown_key g (without r (keys_after (keys T) L)) ≡ true = beside ne ∙ h in
@@ -205,13 +206,17 @@ module _ {c w m : ℕ} {raw K B : List ℕ} {r : ℕ} (A : Asked c w m raw K B r
         let f : shown_key g (without r (keys_after (keys T) L)) ≡ false = beside F.other ∙ F.free in
         rw f
 
-    pub in_layer : Held c m raw × Within c m (in_key_order lower out into)
-    in_layer = may_enter N plans
+    -- the move x
+    module _ {x : Move} (is : x ≡ in_key_order lower out into) where
+      turns : Plans c L M x
+      turns = rw is plans
 
-    pub turned_ends : (x : Answer) (new : List ℕ)
-        → (x ≡ room_answer c (length raw) (count_after m (in_key_order lower out into)))
-        × (new ≡ if_done x (entered c m (in_key_order lower out into) raw) raw)
-        → Ends x new
-    turned_ends x new o =
-        let w = enters c m raw (renumber_rest c (length raw) T L r g) M N left plans x new o in
-        (w.0, w.1 ∙ ap (λ (t : Answer). edited c m t M raw) (sym w.0))
+      pub in_layer : Held c m raw × Within c m x
+      in_layer = may_enter N turns
+
+      pub turned_ends : (s : Answer) (new : List ℕ)
+          → (s ≡ room_answer c (length raw) (count_after m x)) × (new ≡ if_done s (entered c m x raw) raw)
+          → Ends s new
+      turned_ends s new o =
+          let w = enters c m raw (renumber_rest c (length raw) T L r g) M N left turns s new o in
+          (w.0, w.1 ∙ ap (λ (t : Answer). edited c m t M raw) (sym w.0))

@@ -8,7 +8,7 @@ ghost use Rattle.model.specs.Edits.{renumber_row};
 ghost use Rattle.model.specs.Calls.{edited};
 ghost use Rattle.reseat.specs.Rest.{renumber_rest, Asked};
 
-use words::Answer;
+use words::{Cause, Refusal};
 
 // Renumbers row number r, which is shown, to g: the row goes and comes again with its other values as they are shown, in
 // one move of what stands between the two places and one of what stands behind both.
@@ -21,7 +21,7 @@ pub fn reseat(
     table: &[u64],
     r: usize,
     g: u64,
-) -> Answer
+) -> Result<usize, Refusal>
     requires { Asked c w m layer.old keys.now table.now r }
     ensures { let L = layer.old in let T = columnwise c (length keys.now) w table.now in
         (result ≡ renumber_rest c (length L) T (layer_of c m L) r g)
@@ -32,13 +32,13 @@ pub fn reseat(
     let mut row = lifted.row;
     let own = row[0];
     if own == g {
-        return Answer::Done(m);
+        return Ok(m);
     }
     row[0] = g;
     let into = plan::add(c, m, layer, keys, &row[..c]);
     if into.shown {
-        return Answer::refused(7, 0);
+        return words::refused(Cause::KeyShown, 0);
     }
-    let splice = into.splice;
-    enter::enter_in_turn(c, m, g < own, out, splice, layer)
+    let x = enter::in_key_order(g < own, out, into.splice);
+    enter::enter(c, m, x, layer)
 }

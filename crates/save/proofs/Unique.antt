@@ -2,12 +2,10 @@
 -- `Post` is the contract as the call is proved to meet it; κs are its lifetimes, a its arguments, s what is lent at its end.
 -- Assumes nothing.
 use mathlib.Core.Path.{◌≡◌, sym, ◌∙◌}
-use mathlib.Core.List.{List}
-use Prim.Native.Nat.{ℕ}
 use contract.Lifetimes.{Lfts}
 use denote.Triple.Clauses.{AtExit}
 use borrow.Fn.Kinds.{Dens, ended_of}
-use Rattle.words.specs.declared.Answer.{Answer}
+use Rattle.words.specs.Answer.{Answer}
 use Rattle.save.proofs.save.Kinds as save_kinds
 use Rattle.save.proofs.save.Reads as save_contract
 

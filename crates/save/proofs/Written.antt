@@ -1,6 +1,6 @@
 -- What save answers and leaves: the numbers of the layer, then the trailer.
 -- Assumes nothing.
-use Prim.Native.Nat.{ℕ, ◌+◌, ◌*◌, ◌-◌, ◌≤◌, ◌<◌}
+use Prim.Native.Nat.{ℕ, ◌+◌, ◌*◌, ◌≤◌, ◌<◌}
 use native.Mathlib.Omega.{arith}
 use mathlib.Core.Path.{◌≡◌, sym, ap, ◌∙◌}
 use mathlib.Core.List.{List, [], ◌∷◌, ◌++◌}
@@ -8,13 +8,13 @@ use lib.ListN.{length, take, drop, length-append}
 use lib.Seq.{take_at, take_all, drop-append-add, drop-drop, length-take-le, paste}
 use lib.Dec.{ltb}
 use borrow.Author.Tests.{lt-ltb, le-ltb}
+use Rattle.words.specs.declared.Cause.TheVariants.{ShortBuffer}
+use Rattle.std.specs.Prelude.{Ok, Err}
 use Rattle.run.proofs.Laws.{paste_paste}
 use Rattle.little.specs.Little.{eight, eights}
 use Rattle.little.proofs.Numbers.{eights_length, eights_append}
 use Rattle.words.specs.declared.Refusal.{Refusal}
-use Rattle.words.specs.declared.Answer.{Answer}
-use Rattle.words.specs.declared.Answer.TheVariants.{Done, Refused}
-use Rattle.words.specs.Answer.{refusal}
+use Rattle.words.specs.Answer.{refusal, Answer}
 use Rattle.model.specs.Raw.{layer_of}
 use Rattle.model.specs.Refusals.{Test, refuse, first_met}
 use Rattle.model.specs.Calls.{form_answer, written}
@@ -46,21 +46,21 @@ four_written d₀ d₁ d₂ d₃ d₄ at a b c e h p q r s = rw (s, r, q, p) (fo
 module _ (c n m : ℕ) (raw : List ℕ) (len : ℕ) where
   -- the call's own row: the room of the buffer
   abbrev short_buffer : List Test
-  short_buffer = refuse 11 0 (ltb len (reach c m)) ∷ []
+  short_buffer = refuse ShortBuffer 0 (ltb len (reach c m)) ∷ []
 
   stages : save_answer c n m raw len
-      ≡ onward Refused (form_answer c n m raw) (first_met Refused short_buffer (Done (reach c m)))
+      ≡ onward Err (form_answer c n m raw) (first_met Err short_buffer (Ok (reach c m)))
   unfolding save_answer
-  stages = after_form_lem Refused c n m raw short_buffer (Done (reach c m))
+  stages = after_form_lem Err c n m raw short_buffer (Ok (reach c m))
 
-  pub form_refused : (x : Refusal) → form_answer c n m raw ≡ Refused x → Refused x ≡ save_answer c n m raw len
+  pub form_refused : (x : Refusal) → form_answer c n m raw ≡ Err x → Err x ≡ save_answer c n m raw len
   form_refused x e = sym (stages ∙ rw e)
 
-  module _ (k : ℕ) (e : form_answer c n m raw ≡ Done k) where
-    pub short : len < reach c m → Refused (refusal 11 0) ≡ save_answer c n m raw len
+  module _ (k : ℕ) (e : form_answer c n m raw ≡ Ok k) where
+    pub short : len < reach c m → Err (refusal ShortBuffer 0) ≡ save_answer c n m raw len
     short h = sym (stages ∙ rw (e, lt-ltb len (reach c m) h))
 
-    pub enough : reach c m ≤ len → Done (reach c m) ≡ save_answer c n m raw len
+    pub enough : reach c m ≤ len → Ok (reach c m) ≡ save_answer c n m raw len
     enough h = sym (stages ∙ rw (e, le-ltb len (reach c m) h))
 
 -- what the buffer holds after an answer
@@ -68,7 +68,7 @@ pub slice_after : (c n m : ℕ) (raw old : List ℕ) (r : Answer) → r ≡ save
     → written r (saved c n (layer_of c m raw)) old ≡ save_slice c n m raw old
 slice_after c n m raw old r e = ap (λ (a : Answer). written a (saved c n (layer_of c m raw)) old) e
 
-module _ (c n m : ℕ) (raw : List ℕ) (k : ℕ) (e : form_answer c n m raw ≡ Done k) where
+module _ (c n m : ℕ) (raw : List ℕ) (k : ℕ) (e : form_answer c n m raw ≡ Ok k) where
   took : Accepted c n m raw k
   took = accepted c n m raw k e
 

@@ -6,7 +6,7 @@ ghost use Rattle.std.proofs.Math.Seq.{paste};
 ghost use Rattle.little.specs.Little.{eights};
 ghost use Rattle.format.specs.File.{save_answer, save_slice};
 
-use words::Answer;
+use words::{Cause, Refusal};
 
 // Writes a trailer from byte `at` on.
 fn put_trailer(c: usize, n: usize, m: usize, reach: usize, at: usize, out: &mut [u8])
@@ -20,21 +20,17 @@ fn put_trailer(c: usize, n: usize, m: usize, reach: usize, at: usize, out: &mut 
 }
 
 // Writes the layer of m entries to the front of out, with no note; it answers the number of bytes.
-pub fn save(c: usize, n: usize, m: usize, layer: &[u64], out: &mut [u8]) -> Answer
+pub fn save(c: usize, n: usize, m: usize, layer: &[u64], out: &mut [u8]) -> Result<usize, Refusal>
     ensures { let L = layer.now in let O = out.old in
         (result ≡ save_answer c n m L (length O)) × (out.new ≡ save_slice c n m L O) }
 {
-    match form::check_layer(c, n, m, layer) {
-        Answer::Refused(x) => Answer::Refused(x),
-        Answer::Done(_) => {
-            let k = m * (c + 2);
-            let reach = 32 + 8 * k;
-            if out.len() < reach {
-                return Answer::refused(11, 0);
-            }
-            jot::write_numbers(k, layer, out);
-            put_trailer(c, n, m, reach, 8 * k, out);
-            Answer::Done(reach)
-        }
+    form::check_layer(c, n, m, layer)?;
+    let k = m * (c + 2);
+    let reach = 32 + 8 * k;
+    if out.len() < reach {
+        return words::refused(Cause::ShortBuffer, 0);
     }
+    jot::write_numbers(k, layer, out);
+    put_trailer(c, n, m, reach, 8 * k, out);
+    Ok(reach)
 }

@@ -5,7 +5,7 @@ ghost use Rattle.std.specs.Prelude.{◌≤◌};
 
 use numbers::get;
 use view::Seen;
-use words::{Answer, Back, Shifted};
+use words::{Origin, Refusal};
 
 // A number after some text.
 fn after(text: &[u8], x: u64) {
@@ -40,14 +40,14 @@ fn size(z: i64) -> usize {
 }
 
 // An answer after some text.
-pub fn answer(text: &[u8], a: Answer) {
-    after(text, a.number());
-    after(b" ", a.value() as u64);
+pub fn answer(text: &[u8], a: Result<usize, Refusal>) {
+    after(text, words::number(a));
+    after(b" ", words::value(a) as u64);
 }
 
-pub fn shift(a: Shifted) {
+pub fn shift(a: Result<i64, Refusal>) {
     match a {
-        Shifted::By(z) => {
+        Ok(z) => {
             let k = size(z) as u64;
             if z < 0 {
                 after(b" 0 -", k);
@@ -55,24 +55,24 @@ pub fn shift(a: Shifted) {
                 after(b" 0 ", k);
             }
         }
-        Shifted::Refused(x) => answer(b" ", Answer::Refused(x)),
+        Err(x) => answer(b" ", Err(x)),
     }
 }
 
-pub fn back(a: Back) {
+pub fn back(a: Result<Origin, Refusal>) {
     match a {
-        Back::Base(s) => after(b", 0 base ", s as u64),
-        Back::Added(i) => after(b", 0 entry ", i as u64),
-        Back::Refused(x) => answer(b", ", Answer::Refused(x)),
+        Ok(Origin::Base(s)) => after(b", 0 base ", s as u64),
+        Ok(Origin::Added(i)) => after(b", 0 entry ", i as u64),
+        Err(x) => answer(b", ", Err(x)),
     }
 }
 
 // The part that a view hands back: of the base column or of the buffer, and its length.
-pub fn part(p: Seen) {
+pub fn part(p: Option<Seen>) {
     match p {
-        Seen::Base(k) => after(b" | base ", k as u64),
-        Seen::Front(k) => after(b" | front ", k as u64),
-        Seen::Nothing => after(b" | base ", 0),
+        Some(Seen::Base(k)) => after(b" | base ", k as u64),
+        Some(Seen::Front(k)) => after(b" | front ", k as u64),
+        None => after(b" | base ", 0),
     }
 }
 

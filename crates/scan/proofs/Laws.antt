@@ -10,9 +10,10 @@ use lib.ListN.{length, get_or, take, drop, drop_of_length-le, length-drop}
 use lib.Seq.{drop-cons, length-take-le}
 use lib.Dec.{leb, ltb, eqb}
 use borrow.Author.Tests.{eq-eqb, lt-ltb, le-ltb}
+use Rattle.words.specs.declared.Cause.TheVariants.{BadForm}
+use Rattle.std.specs.Prelude.{Ok, Err}
 use Rattle.order.specs.Lists.{all}
 use Rattle.words.specs.declared.Entry.{Entry}
-use Rattle.words.specs.declared.Answer.TheVariants.{Done, Refused}
 use Rattle.words.specs.Answer.{refusal}
 use Rattle.model.specs.Form.{sound}
 use Rattle.model.specs.Raw.{entry_at, entries_at}
@@ -67,11 +68,11 @@ module _ (c n m p q i from : ℕ) (xs : List ℕ) where
 
 -- What the pass says of form, case by case.
 module _ (n m place adds strikes : ℕ) where
-  pub at_fault : place < m → Refused (refusal 2 place) ≡ judgement n m place adds strikes
+  pub at_fault : place < m → Err (refusal BadForm place) ≡ judgement n m place adds strikes
   at_fault h = rw (lt-ltb place m h)
 
-  pub too_many : m ≤ place → 4096 + strikes < n + adds → Refused (refusal 2 m) ≡ judgement n m place adds strikes
+  pub too_many : m ≤ place → 4096 + strikes < n + adds → Err (refusal BadForm m) ≡ judgement n m place adds strikes
   too_many h l = rw (le-ltb place m h, lt-ltb (4096 + strikes) (n + adds) l)
 
-  pub in_form : m ≤ place → n + adds ≤ 4096 + strikes → Done ((n + adds) - strikes) ≡ judgement n m place adds strikes
+  pub in_form : m ≤ place → n + adds ≤ 4096 + strikes → Ok ((n + adds) - strikes) ≡ judgement n m place adds strikes
   in_form h l = rw (le-ltb place m h, le-ltb (4096 + strikes) (n + adds) l)

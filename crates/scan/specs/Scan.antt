@@ -1,9 +1,8 @@
 -- The form check as one pass: each entry is looked at alone and after the one before it, by position and kind.
-use Rattle.std.specs.Prelude.{Bool, not, cond, ◌&&◌, ◌||◌, List, [], ◌∷◌, ℕ, ◌+◌, ◌-◌, ◌≤◌, ltb, leb, eqb}
+use Rattle.words.specs.declared.Cause.TheVariants.{BadForm}
+use Rattle.std.specs.Prelude.{Bool, not, cond, ◌&&◌, ◌||◌, List, [], ◌∷◌, ℕ, ◌+◌, ◌-◌, ◌≤◌, ltb, leb, eqb, Ok, Err}
 use Rattle.words.specs.declared.Entry.{Entry}
-use Rattle.words.specs.declared.Answer.{Answer}
-use Rattle.words.specs.declared.Answer.TheVariants.{Done, Refused}
-use Rattle.words.specs.Answer.{refusal}
+use Rattle.words.specs.Answer.{refusal, Answer}
 use Rattle.model.specs.Limits.{most_rows, most_entries}
 use Rattle.model.specs.Raw.{edit_of}
 use Rattle.words.specs.Entry.{ADD, STRIKE}
@@ -45,8 +44,8 @@ of_kind k e = eqb e.kind k
 -- what the pass says of form, where `place` entries stand before the first at fault, with so many adds and strikes
 abbrev pub judgement : ℕ → ℕ → ℕ → ℕ → ℕ → Answer
 judgement n m place adds strikes =
-    cond (ltb place m) (Refused (refusal 2 place))
-    (cond (ltb (most_rows + strikes) (n + adds)) (Refused (refusal 2 m)) (Done ((n + adds) - strikes)))
+    cond (ltb place m) (Err (refusal BadForm place))
+    (cond (ltb (most_rows + strikes) (n + adds)) (Err (refusal BadForm m)) (Ok ((n + adds) - strikes)))
 
 -- what the judge asks: few rows, adds and strikes, and strikes of base rows only, where no entry is at fault
 pub record Judged (n m place adds strikes : ℕ) : Type 0 where

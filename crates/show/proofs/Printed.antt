@@ -9,9 +9,9 @@ use native.Mathlib.Omega.{arith}
 use lib.ListN.{length, take, drop, length-drop}
 use lib.Seq.{take-take, length-take-le}
 use borrow.Rule.Slice.PartMut.{put_mid, take_put}
+use Rattle.words.specs.Answer.{Answer}
+use Rattle.std.specs.Prelude.{Ok, Err}
 use Rattle.order.proofs.Counts.{count_le}
-use Rattle.words.specs.declared.Answer.{Answer}
-use Rattle.words.specs.declared.Answer.TheVariants.{Done, Refused}
 use Rattle.model.specs.Row.{Table, cell, column}
 use Rattle.model.specs.Layer.{Layer, is_add}
 use Rattle.model.specs.Raw.{layer_of}
@@ -66,7 +66,7 @@ columns (k ∷ K) (s ∷ S) (m ∷ M) e f =
     }
 
 -- no more rows are shown than base rows and entries
-pub few_shown : (n m rows : ℕ) (raw : List ℕ) → n ≤ 512 → form_answer 3 n m raw ≡ Done rows → rows ≤ most_shown
+pub few_shown : (n m rows : ℕ) (raw : List ℕ) → n ≤ 512 → form_answer 3 n m raw ≡ Ok rows → rows ≤ most_shown
 few_shown n m rows raw h e =
     let a = accepted 3 n m raw rows e in
     omega (arith, a.shown, a.size, a.held.entries, count_le is_add (layer_of 3 m raw))
@@ -80,7 +80,7 @@ base_size n j table few size h =
 
 -- a column read from its place in the table
 module _ (rows n m j : ℕ) (raw table : List ℕ) (few : n ≤ most_base) (size : length table ≡ 1536) (h : j < 3)
-    (e : form_answer 3 n m raw ≡ Done rows) where
+    (e : form_answer 3 n m raw ≡ Ok rows) where
   abbrev base : List ℕ
   base = take n (column_of j table)
 
@@ -88,7 +88,7 @@ module _ (rows n m j : ℕ) (raw table : List ℕ) (few : n ≤ most_base) (size
   pub base_part : (k : ℕ) → k ≡ n → take k (drop (most_base * j) table) ≡ base
   base_part k z = rw z (sym (take-take n most_base (drop (most_base * j) table) few))
 
-  same : form_answer 3 (length base) m raw ≡ Done rows
+  same : form_answer 3 (length base) m raw ≡ Ok rows
   same = rw (base_size n j table few size h) e
 
   pub ready_to_read : (len : ℕ) → rows ≤ len → Readable 3 m raw base j len
@@ -140,12 +140,12 @@ rows_read rows n m raw table work few size wG wO wP =
 
 -- the header alone, and with the rows behind it
 module _ (d : Counts) (x : Sheet) (old mid : List ℕ) (o r : ℕ) (w : Wrote header old o r mid) where
-  pub header_alone : {f : Answer} (q : Refusal) → f ≡ form_answer 3 d.rows d.entries x.layer → f ≡ Refused q →
+  pub header_alone : {f : Answer} (q : Refusal) → f ≡ form_answer 3 d.rows d.entries x.layer → f ≡ Err q →
       Wrote (ending d x) old o r mid
   unfolding ending table_text
   header_alone q e t = rw (sym e ∙ t) w
 
-  pub header_rows : {f : Answer} (k q : ℕ) (new : List ℕ) → f ≡ form_answer 3 d.rows d.entries x.layer → f ≡ Done k →
+  pub header_rows : {f : Answer} (k q : ℕ) (new : List ℕ) → f ≡ form_answer 3 d.rows d.entries x.layer → f ≡ Ok k →
       Wrote (table_text 0 (shown_table d x)) mid r q new → Wrote (ending d x) old o q new
   unfolding ending
   header_rows k q new e t v = rw (sym e ∙ t) (wrote_then w v)

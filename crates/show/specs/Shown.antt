@@ -1,7 +1,6 @@
 -- The table that is printed at the end: the base rows read through the layer.
-use Rattle.std.specs.Prelude.{◌≡◌, List, [], ◌++◌, ℕ}
-use Rattle.words.specs.declared.Answer.{Answer}
-use Rattle.words.specs.declared.Answer.TheVariants.{Done, Refused}
+use Rattle.words.specs.Answer.{Answer}
+use Rattle.std.specs.Prelude.{◌≡◌, List, [], ◌++◌, ℕ, Ok, Err}
 use Rattle.model.specs.Row.{Table}
 use Rattle.model.specs.Raw.{layer_of}
 use Rattle.model.specs.Read.{read}
@@ -16,12 +15,12 @@ shown_table d x = read (base_table d x) (layer_of 3 d.entries x.layer)
 
 -- the rows, where the layer keeps form
 abbrev pub if_formed : Answer → Table → Table
-if_formed (Done k) T = T
-if_formed (Refused x) T = []
+if_formed (Ok k) T = T
+if_formed (Err x) T = []
 
 -- a layer of m entries over n base rows keeps form and shows so many rows
 abbrev pub Formed : ℕ → ℕ → ℕ → List ℕ → Type 0
-Formed rows n m raw = form_answer 3 n m raw ≡ Done rows
+Formed rows n m raw = form_answer 3 n m raw ≡ Ok rows
 
 -- what is printed at the end
 unfoldable pub ending : Counts → Sheet → List ℕ

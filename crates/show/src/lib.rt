@@ -9,7 +9,6 @@ ghost use Rattle.base.specs.Base.{most_base, column_of, sheet_of, table_of};
 ghost use Rattle.show.specs.Shown.{Formed, ending};
 
 use base::Counts;
-use words::Answer;
 
 // Reads column j of the n base rows to its place in the work buffer; the layer keeps form and shows so many rows.
 fn read_column(
@@ -77,7 +76,7 @@ pub fn finish(
     let n = counts.rows;
     let m = counts.entries;
     match form::check(3, n, m, layer) {
-        Answer::Refused(_) => end,
-        Answer::Done(rows) => put_table(rows, n, m, layer, table, out, end),
+        Err(_) => end,
+        Ok(rows) => put_table(rows, n, m, layer, table, out, end),
     }
 }

@@ -1,11 +1,11 @@
 -- A layer's slice after splices: some of its entries replaced by one entry or by none, at two places, what stands behind them
 -- moved, zeros where numbers were freed, the rest as it was.
-use Rattle.std.specs.Prelude.{List, [], ◌∷◌, ◌++◌, ℕ, ◌+◌, ◌-◌, ◌*◌, ◌≤◌, max, length, take, drop, replicate, ltb}
-use Rattle.words.specs.declared.Answer.{Answer}
-use Rattle.words.specs.declared.Answer.TheVariants.{Done, Refused}
+use Rattle.words.specs.declared.Cause.TheVariants.{NoRoom}
+use Rattle.words.specs.Answer.{Answer}
+use Rattle.std.specs.Prelude.{List, [], ◌∷◌, ◌++◌, ℕ, ◌+◌, ◌-◌, ◌*◌, ◌≤◌, max, length, take, drop, replicate, ltb, Ok, Err}
 use Rattle.model.specs.Raw.{room}
 use Rattle.model.specs.Refusals.{first_met, refuse}
-use Rattle.store.specs.Numbers.{entry_numbers, coming}
+use Rattle.store.specs.Numbers.{coming, arrivals}
 use Rattle.splice.specs.declared.Splice.{Splice}
 
 -- the numbers from `from` up to `end`
@@ -17,7 +17,7 @@ abbrev pub begins : ℕ → Splice → ℕ
 begins c p = p.i * (c + 2)
 
 abbrev pub fresh : ℕ → Splice → List ℕ
-fresh c p = coming p.comes (entry_numbers c p.entry)
+fresh c p = coming c p.comes
 
 abbrev pub resumes : ℕ → Splice → ℕ
 resumes c p = (p.i + p.gone) * (c + 2)
@@ -36,18 +36,16 @@ spliced_two c m p q xs =
 pub record BothWithin (m : ℕ) (p q : Splice) : Type 0 where
   pub first : p.i + p.gone ≤ q.i
   pub second : q.i + q.gone ≤ m
-  pub few : p.comes ≤ 1
-  pub few₂ : q.comes ≤ 1
 
 -- how many entries of m there are after them
 abbrev pub count_two : ℕ → Splice → Splice → ℕ
-count_two m p q = m + (p.comes + q.comes) - (p.gone + q.gone)
+count_two m p q = m + (arrivals p.comes + arrivals q.comes) - (p.gone + q.gone)
 
 -- k entries, refused for want of room in a slice of len numbers
 abbrev pub room_answer : ℕ → ℕ → ℕ → Answer
-room_answer c len k = first_met Refused (refuse 9 0 (ltb (room c len) k) ∷ []) (Done k)
+room_answer c len k = first_met Err (refuse NoRoom 0 (ltb (room c len) k) ∷ []) (Ok k)
 
 -- a slice after a call that is done or refused
 abbrev pub if_done : Answer → List ℕ → List ℕ → List ℕ
-if_done (Done k) new old = new
-if_done (Refused x) new old = old
+if_done (Ok k) new old = new
+if_done (Err x) new old = old

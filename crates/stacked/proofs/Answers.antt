@@ -9,11 +9,11 @@ use native.Mathlib.Omega.{arith}
 use lib.ListN.{length}
 use lib.Dec.{leb, ltb}
 use borrow.Author.Tests.{lt-ltb, le-ltb, le-leb, ltb-false, not-false}
+use Rattle.words.specs.declared.Cause.TheVariants.{BadArguments, BadForm, KeysUnordered, BadFit}
+use Rattle.std.specs.Prelude.{Ok, Err}
 use Rattle.order.specs.Lists.{ascending}
 use Rattle.order.proofs.Tests.{impossible, and_l, and_r, and_of, or_false}
 use Rattle.words.specs.declared.Refusal.{Refusal}
-use Rattle.words.specs.declared.Answer.{Answer}
-use Rattle.words.specs.declared.Answer.TheVariants.{Done, Refused}
 use Rattle.model.specs.Limits.{most_columns, most_entries, most_rows}
 use Rattle.model.specs.Layer.{Layer, rows_after}
 use Rattle.model.specs.Raw.{entries_of, layer_of}
@@ -21,7 +21,7 @@ use Rattle.model.specs.Form.{args_ok, form_place}
 use Rattle.model.specs.Fit.{fit_place}
 use Rattle.model.specs.Read.{keys_after}
 use Rattle.model.specs.Refusals.{first_met, bad_form, breaks_form}
-use Rattle.words.specs.Answer.{refusal}
+use Rattle.words.specs.Answer.{refusal, Answer}
 use Rattle.model.specs.Calls.{form_answer, combine_answer, combine_rows, combined_layer}
 use Rattle.theory.proofs.Raw.{layer_length, form_place_lem, args_held}
 use Rattle.theory.proofs.Fit.{fits_all}
@@ -44,7 +44,7 @@ other_rows c n k m len h l =
     (and_of (leb k most_rows) a (le-leb k most_rows l) (and_r (leb n most_rows) a u)))
 
 -- the place of a form refusal is at most the number of entries
-place_upto : (c n m : ℕ) (xs : List ℕ) (y : Refusal) → args_ok c n m (length xs) ≡ true → form_answer c n m xs ≡ Refused y
+place_upto : (c n m : ℕ) (xs : List ℕ) (y : Refusal) → args_ok c n m (length xs) ≡ true → form_answer c n m xs ≡ Err y
     → y.place ≤ m
 unfolding form_answer
 place_upto c n m xs y ok e = by (breaks_form c n m xs) (rw ok at e)
@@ -52,9 +52,9 @@ place_upto c n m xs y ok e = by (breaks_form c n m xs) (rw ok at e)
     p : ℕ
     p = form_place c n (entries_of c m xs)
 
-    by : (b : Bool) → cond b (Refused (refusal 2 (0 + p))) (Done (rows_after n (layer_of c m xs))) ≡ Refused y → y.place ≤ m
+    by : (b : Bool) → cond b (Err (refusal BadForm (0 + p))) (Ok (rows_after n (layer_of c m xs))) ≡ Err y → y.place ≤ m
     by true z =
-        let q : refusal 2 (0 + p) ≡ y = cc in
+        let q : refusal BadForm (0 + p) ≡ y = cc in
         omega (arith, ap (λ (t : Refusal). t.place) q, form_place_lem c n m xs)
     by false z = impossible (cc)
 
@@ -74,21 +74,21 @@ module _ (c : ℕ) (K : List ℕ) (mR : ℕ) (rawR : List ℕ) (mW : ℕ) (rawW 
   mid = rows_after (length K) R
 
   -- refusals 3 and 4
-  pub keys_refused : ascending K ≡ false → Refused (refusal 3 0) ≡ fits_answer c K mR rawR mW rawW
+  pub keys_refused : ascending K ≡ false → Err (refusal KeysUnordered 0) ≡ fits_answer c K mR rawR mW rawW
   unfolding fits_answer
   keys_refused h = rw (h)
 
   module _ (h : ascending K ≡ true) (p : ℕ) (e : p ≡ fit_place K R) where
-    pub lower_refused : p < mR → Refused (refusal 4 p) ≡ fits_answer c K mR rawR mW rawW
+    pub lower_refused : p < mR → Err (refusal BadFit p) ≡ fits_answer c K mR rawR mW rawW
     unfolding fits_answer
     lower_refused l = rw (h, layer_length c mR rawR, ← e, lt-ltb p mR l, zero-add)
 
     module _ (l : mR ≤ p) (q : ℕ) (f : q ≡ fit_place (keys_after K R) W) where
-      pub upper_refused : q < mW → Refused (refusal 4 (1000 + q)) ≡ fits_answer c K mR rawR mW rawW
+      pub upper_refused : q < mW → Err (refusal BadFit (1000 + q)) ≡ fits_answer c K mR rawR mW rawW
       unfolding fits_answer
       upper_refused u = rw (h, layer_length c mR rawR, ← e, le-ltb p mR l, layer_length c mW rawW, ← f, lt-ltb q mW u)
 
-      pub fits_done : mW ≤ q → Done 0 ≡ fits_answer c K mR rawR mW rawW
+      pub fits_done : mW ≤ q → Ok 0 ≡ fits_answer c K mR rawR mW rawW
       unfolding fits_answer
       fits_done u = rw (h, layer_length c mR rawR, ← e, le-ltb p mR l, layer_length c mW rawW, ← f, le-ltb q mW u)
 
@@ -99,24 +99,24 @@ module _ (c : ℕ) (K : List ℕ) (mR : ℕ) (rawR : List ℕ) (mW : ℕ) (rawW 
   abbrev upper_args : Bool
   upper_args = args_ok c (length K) mW (length rawW)
 
-  pub args_refused : lower_args && upper_args ≡ false → Refused (refusal 1 0) ≡ both_answer c K mR rawR mW rawW
+  pub args_refused : lower_args && upper_args ≡ false → Err (refusal BadArguments 0) ≡ both_answer c K mR rawR mW rawW
   unfolding both_answer
   args_refused h = rw (h)
 
   module _ (ok : lower_args && upper_args ≡ true) where
     -- refusal 2, of the lower layer
-    after_lower : both_answer c K mR rawR mW rawW ≡ onward Refused (form_answer c (length K) mR rawR)
-        (first_met Refused (bad_form 1000 c mid mW rawW ∷ fitted c K mR rawR mW rawW) (Done 0))
+    after_lower : both_answer c K mR rawR mW rawW ≡ onward Err (form_answer c (length K) mR rawR)
+        (first_met Err (bad_form 1000 c mid mW rawW ∷ fitted c K mR rawR mW rawW) (Ok 0))
     unfolding both_answer
     after_lower =
-        after_own Refused c (length K) mR rawR upper_args (bad_form 1000 c mid mW rawW ∷ fitted c K mR rawR mW rawW) (Done 0)
+        after_own Err c (length K) mR rawR upper_args (bad_form 1000 c mid mW rawW ∷ fitted c K mR rawR mW rawW) (Ok 0)
         (and_r lower_args upper_args ok)
 
-    pub lower_form_refused : (x : Refusal) → form_answer c (length K) mR rawR ≡ Refused x
-        → Refused x ≡ both_answer c K mR rawR mW rawW
+    pub lower_form_refused : (x : Refusal) → form_answer c (length K) mR rawR ≡ Err x
+        → Err x ≡ both_answer c K mR rawR mW rawW
     lower_form_refused x e = sym (after_lower ∙ rw e)
 
-    module _ (rows : ℕ) (e : form_answer c (length K) mR rawR ≡ Done rows) where
+    module _ (rows : ℕ) (e : form_answer c (length K) mR rawR ≡ Ok rows) where
       low : Accepted c (length K) mR rawR rows
       low = accepted c (length K) mR rawR rows e
 
@@ -127,21 +127,21 @@ module _ (c : ℕ) (K : List ℕ) (mR : ℕ) (rawR : List ℕ) (mW : ℕ) (rawW 
 
       -- refusal 2, of the upper layer
       after_upper : both_answer c K mR rawR mW rawW
-          ≡ onward (λ x. Refused (raised 1000 x)) (form_answer c rows mW rawW) (fits_answer c K mR rawR mW rawW)
+          ≡ onward (λ x. Err (raised 1000 x)) (form_answer c rows mW rawW) (fits_answer c K mR rawR mW rawW)
       unfolding fits_answer
       after_upper =
           after_lower
-          ∙ (ap (λ (t : Answer). onward Refused t
-          (first_met Refused (bad_form 1000 c mid mW rawW ∷ fitted c K mR rawR mW rawW) (Done 0))) e
-          ∙ (form_row Refused 1000 c mid mW rawW (fitted c K mR rawR mW rawW) (Done 0) rows_ok
-          ∙ ap (λ (n : ℕ). onward (λ x. Refused (raised 1000 x)) (form_answer c n mW rawW)
-          (first_met Refused (fitted c K mR rawR mW rawW) (Done 0))) (sym low.shown)))
+          ∙ (ap (λ (t : Answer). onward Err t
+          (first_met Err (bad_form 1000 c mid mW rawW ∷ fitted c K mR rawR mW rawW) (Ok 0))) e
+          ∙ (form_row Err 1000 c mid mW rawW (fitted c K mR rawR mW rawW) (Ok 0) rows_ok
+          ∙ ap (λ (n : ℕ). onward (λ x. Err (raised 1000 x)) (form_answer c n mW rawW)
+          (first_met Err (fitted c K mR rawR mW rawW) (Ok 0))) (sym low.shown)))
 
-      pub upper_form_refused : (y : Refusal) → form_answer c rows mW rawW ≡ Refused y
-          → Refused (refusal y.number (1000 + y.place)) ≡ both_answer c K mR rawR mW rawW
+      pub upper_form_refused : (y : Refusal) → form_answer c rows mW rawW ≡ Err y
+          → Err (refusal y.cause (1000 + y.place)) ≡ both_answer c K mR rawR mW rawW
       upper_form_refused y u = sym (after_upper ∙ rw u)
 
-      pub upper_place : (y : Refusal) → form_answer c rows mW rawW ≡ Refused y → y.place ≤ 512
+      pub upper_place : (y : Refusal) → form_answer c rows mW rawW ≡ Err y → y.place ≤ 512
       upper_place y u =
           omega (
             arith,
@@ -149,7 +149,7 @@ module _ (c : ℕ) (K : List ℕ) (mR : ℕ) (rawR : List ℕ) (mW : ℕ) (rawW 
             (args_held c (length K) mW rawW (and_r lower_args upper_args ok)).0.entries,
           )
 
-      module _ (total : ℕ) (u : form_answer c rows mW rawW ≡ Done total) where
+      module _ (total : ℕ) (u : form_answer c rows mW rawW ≡ Ok total) where
         pub forms : Forms c K mR rawR mW rawW
         forms = record {
           lower = in_form c (length K) mR rawR rows e;
@@ -161,19 +161,19 @@ module _ (c : ℕ) (K : List ℕ) (mR : ℕ) (rawR : List ℕ) (mW : ℕ) (rawW 
 
   -- both layers are checked, then the rows of the call's own are looked at
   pub after_both : (len : ℕ) → combine_answer c K mR rawR mW rawW len
-      ≡ onward Refused (both_answer c K mR rawR mW rawW)
-      (first_met Refused (combine_rows c len K R W) (Done (length (combined_layer c K mR rawR mW rawW))))
+      ≡ onward Err (both_answer c K mR rawR mW rawW)
+      (first_met Err (combine_rows c len K R W) (Ok (length (combined_layer c K mR rawR mW rawW))))
   unfolding combine_answer both_answer
   after_both len =
-      stage Refused (formed c K mR rawR mW rawW ++ fitted c K mR rawR mW rawW) (combine_rows c len K R W) 0
-      (Done (length (combined_layer c K mR rawR mW rawW)))
+      stage Err (formed c K mR rawR mW rawW ++ fitted c K mR rawR mW rawW) (combine_rows c len K R W) 0
+      (Ok (length (combined_layer c K mR rawR mW rawW)))
 
-  pub both_refused : (len : ℕ) (x : Refusal) → both_answer c K mR rawR mW rawW ≡ Refused x
-      → Refused x ≡ combine_answer c K mR rawR mW rawW len
+  pub both_refused : (len : ℕ) (x : Refusal) → both_answer c K mR rawR mW rawW ≡ Err x
+      → Err x ≡ combine_answer c K mR rawR mW rawW len
   both_refused len x h = sym (after_both len ∙ rw h)
 
   -- where no row is met, both are in form and fit
-  pub all_fit : (k : ℕ) → both_answer c K mR rawR mW rawW ≡ Done k → Fits c K mR rawR mW rawW
+  pub all_fit : (k : ℕ) → both_answer c K mR rawR mW rawW ≡ Ok k → Fits c K mR rawR mW rawW
   unfolding both_answer breaks_form
   all_fit k h =
       let w = (stage_passed (formed c K mR rawR mW rawW ++ fitted c K mR rawR mW rawW) 0 k h).0 in

@@ -1,8 +1,7 @@
 -- The rows of the refusal table for combining that both layers are checked by, and what is known where none of them is met.
-use Rattle.std.specs.Prelude.{◌≡◌, true, ◌&&◌, List, ◌++◌, ℕ, length}
+use Rattle.words.specs.Answer.{Answer}
+use Rattle.std.specs.Prelude.{◌≡◌, true, ◌&&◌, List, ◌++◌, ℕ, length, Ok, Err}
 use Rattle.order.specs.Lists.{ascending}
-use Rattle.words.specs.declared.Answer.{Answer}
-use Rattle.words.specs.declared.Answer.TheVariants.{Done, Refused}
 use Rattle.model.specs.Layer.{rows_after}
 use Rattle.model.specs.Raw.{layer_of}
 use Rattle.model.specs.Form.{args_ok}
@@ -26,11 +25,11 @@ fitted c K mR rawR mW rawW =
     both_fit_rows K R (keys_after K R) (layer_of c mW rawW)
 
 unfoldable pub fits_answer : ℕ → List ℕ → ℕ → List ℕ → ℕ → List ℕ → Answer
-fits_answer c K mR rawR mW rawW = first_met Refused (fitted c K mR rawR mW rawW) (Done 0)
+fits_answer c K mR rawR mW rawW = first_met Err (fitted c K mR rawR mW rawW) (Ok 0)
 
 unfoldable pub both_answer : ℕ → List ℕ → ℕ → List ℕ → ℕ → List ℕ → Answer
 both_answer c K mR rawR mW rawW =
-    first_met Refused (formed c K mR rawR mW rawW ++ fitted c K mR rawR mW rawW) (Done 0)
+    first_met Err (formed c K mR rawR mW rawW ++ fitted c K mR rawR mW rawW) (Ok 0)
 
 -- both layers are in form
 pub record Forms (c : ℕ) (K : List ℕ) (mR : ℕ) (rawR : List ℕ) (mW : ℕ) (rawW : List ℕ) : Type 0 where
@@ -46,5 +45,5 @@ pub record Fits (c : ℕ) (K : List ℕ) (mR : ℕ) (rawR : List ℕ) (mW : ℕ)
 
 -- where no row is met, the upper layer's entries concern these keys
 abbrev pub NamedIf : Answer → ℕ → List ℕ → ℕ → List ℕ → ℕ → List ℕ → List ℕ → Type 0
-NamedIf (Done k) c K mR rawR mW rawW names = Named c (over c K mR rawR) mW rawW names
-NamedIf (Refused x) c K mR rawR mW rawW names = Unit {0}
+NamedIf (Ok k) c K mR rawR mW rawW names = Named c (over c K mR rawR) mW rawW names
+NamedIf (Err x) c K mR rawR mW rawW names = Unit {0}

@@ -6,7 +6,7 @@ ghost use Rattle.model.specs.Layer.{rows_after};
 ghost use Rattle.model.specs.Raw.{layer_of};
 ghost use Rattle.stacked.specs.Checked.{fits_answer, both_answer, Forms, NamedIf};
 
-use words::Answer;
+use words::{Cause, Refusal};
 
 // Refusals 3 and 4 of two layers in form: keys, fit, the upper one to the keys of the rows that the lower leaves. Where none
 // is met, the upper layer's entries concern the keys `names`.
@@ -19,24 +19,24 @@ fn fit_both(
     mw: usize,
     w: &[u64],
     names: &mut [u64],
-) -> Answer
+) -> Result<usize, Refusal>
     requires { Forms c keys.now mr r.now mw w.now × (rows ≡ rows_after (length keys.now) (layer_of c mr r.now))
         × (512 ≤ length names.old) }
     ensures { let K = keys.now in let R = r.now in let W = w.now in
         (result ≡ fits_answer c K mr R mw W) × NamedIf result c K mr R mw W names.new }
 {
     if !keys::ascend(keys) {
-        return Answer::refused(3, 0);
+        return words::refused(Cause::KeysUnordered, 0);
     }
     let p = fit::fit_place(c, mr, r, keys);
     if p < mr {
-        return Answer::refused(4, p);
+        return words::refused(Cause::BadFit, p);
     }
     let q = over::fit_over(c, keys, mr, r, rows, mw, w, names);
     if q < mw {
-        return Answer::refused(4, 1000 + q);
+        return words::refused(Cause::BadFit, 1000 + q);
     }
-    Answer::Done(0)
+    Ok(0)
 }
 
 // All four.
@@ -48,20 +48,18 @@ pub fn check_both(
     mw: usize,
     w: &[u64],
     names: &mut [u64],
-) -> Answer
+) -> Result<usize, Refusal>
     requires { 512 ≤ length names.old }
     ensures { let K = keys.now in let R = r.now in let W = w.now in
         (result ≡ both_answer c K mr R mw W) × NamedIf result c K mr R mw W names.new }
 {
     let n = keys.len();
     if !(form::args_ok(c, n, mr, r.len()) & form::args_ok(c, n, mw, w.len())) {
-        return Answer::refused(1, 0);
+        return words::refused(Cause::BadArguments, 0);
     }
-    match form::check(c, n, mr, r) {
-        Answer::Refused(x) => Answer::Refused(x),
-        Answer::Done(rows) => match form::check(c, rows, mw, w) {
-            Answer::Refused(y) => Answer::refused(y.number, 1000 + y.place),
-            Answer::Done(_) => fit_both(c, keys, mr, r, rows, mw, w, names),
-        },
+    let rows = form::check(c, n, mr, r)?;
+    match form::check(c, rows, mw, w) {
+        Ok(_) => fit_both(c, keys, mr, r, rows, mw, w, names),
+        Err(y) => words::refused(y.cause, 1000 + y.place),
     }
 }

@@ -1,6 +1,6 @@
 -- The numbers of an entry as they are stored; what comes, in numbers; what fits the room of a slice.
 -- Assumes nothing.
-use Prim.Native.Nat.{ℕ, zero, suc, ◌+◌, ◌*◌, ◌-◌, ◌≤◌, ◌/◌}
+use Prim.Native.Nat.{ℕ, suc, ◌+◌, ◌*◌, ◌-◌, ◌≤◌, ◌/◌}
 use native.Mathlib.Nat.{zero-mul, min-le_left, min-le_right, le-min, le-div_iff_mul-le}
 use native.Mathlib.Omega.{arith}
 use mathlib.Core.Path.{◌≡◌, refl, sym, ap, ◌∙◌}
@@ -8,9 +8,10 @@ use mathlib.Core.List.{List, ◌∷◌, ◌++◌}
 use lib.ListN.{length, take, drop, set}
 use lib.Seq.{paste, paste-zero, length-take-le, take-take}
 use Rattle.run.proofs.Laws.{copy_more, paste_paste}
+use Rattle.std.specs.Prelude.{Option, Some, None}
 use Rattle.words.specs.declared.Entry.{Entry}
 use Rattle.model.specs.Raw.{room}
-use Rattle.store.specs.Numbers.{entry_numbers, coming}
+use Rattle.store.specs.Numbers.{entry_numbers, coming, arrivals}
 
 -- an entry's numbers, stored one by one and then the values as a run
 pub store_all : (xs : List ℕ) (at c : ℕ) (e : Entry) → c ≤ length e.vals → at + (c + 2) ≤ length xs
@@ -37,12 +38,18 @@ store_all xs at c e h r =
 pub numbers_length : (c : ℕ) (e : Entry) → c ≤ length e.vals → length (entry_numbers c e) ≡ c + 2
 numbers_length c e h = omega (arith, length-take-le c e.vals h)
 
--- what comes, in numbers
-pub coming_length : (w k : ℕ) (new : List ℕ) → k ≤ 1 → length new ≡ w → length (coming k new) ≡ k * w
-coming_length w zero new h l = sym (zero-mul w)
-coming_length w (suc k) new h l =
-    let z : suc k ≡ 1 = omega arith in
-    rw z (omega arith)
+-- what comes, in numbers: none, or c + 2 for each that comes
+abbrev pub AllNumbers : ℕ → Option Entry → Type 0
+AllNumbers c None = Unit {0}
+AllNumbers c (Some e) = c ≤ length e.vals
+
+pub coming_length : (c : ℕ) (comes : Option Entry) → AllNumbers c comes → length (coming c comes) ≡ arrivals comes * (c + 2)
+coming_length c None h = sym (zero-mul (c + 2))
+coming_length c (Some e) h = omega (arith, numbers_length c e h)
+
+pub few_arrive : (comes : Option Entry) → arrivals comes ≤ 1
+few_arrive None = omega arith
+few_arrive (Some e) = omega arith
 
 -- the room: entries that fit it fit the slice
 pub in_room : (c len k : ℕ) → k ≤ room c len → (k ≤ 512) × (k * (c + 2) ≤ len)

@@ -4,7 +4,7 @@
 ghost use Rattle.std.specs.Prelude.{◌≡◌, ◌+◌, ◌≤◌, length};
 ghost use Rattle.std.proofs.Math.Seq.{paste};
 ghost use Rattle.model.specs.Raw.{room};
-ghost use Rattle.store.specs.Numbers.{coming, entry_numbers};
+ghost use Rattle.store.specs.Numbers.{coming};
 
 use words::Entry;
 
@@ -20,17 +20,15 @@ pub fn room_of(c: usize, len: usize) -> usize
     whole
 }
 
-// Writes what comes, from `at` on: the entry if `comes` is 1, else nothing.
-pub fn store(c: usize, comes: usize, e: Entry, at: usize, layer: &mut [u64])
-    requires { (c ≤ 8) × (at + length (coming comes (entry_numbers c e)) ≤ length layer.old) }
-    ensures { let new = coming comes (entry_numbers c e) in
+// Writes what comes, from `at` on: an entry, or nothing.
+pub fn store(c: usize, comes: Option<Entry>, at: usize, layer: &mut [u64])
+    requires { (c ≤ 8) × (at + length (coming c comes) ≤ length layer.old) }
+    ensures { let new = coming c comes in
         layer.new ≡ paste layer.old at new (length new) }
 {
-    if comes == 0 {
-        return;
+    if let Some(e) = comes {
+        layer[at] = e.pos;
+        layer[at + 1] = e.kind;
+        pairs::copy_pairs(0, c, &e.vals, layer, at + 2);
     }
-    let vals = e.vals;
-    layer[at] = e.pos;
-    layer[at + 1] = e.kind;
-    pairs::copy_pairs(0, c, &vals, layer, at + 2);
 }

@@ -4,21 +4,24 @@
 ghost use Rattle.std.specs.Prelude.{◌≡◌};
 ghost use Rattle.model.specs.Calls.{strike_answer, strike_slice};
 
-use words::Answer;
+use enter::Move;
+use words::{Cause, Refusal};
 
 // Strike row number r: an added row's entry disappears; a base row loses its changes and gains a strike.
-pub fn strike(c: usize, m: usize, layer: &mut [u64], keys: &[u64], r: usize) -> Answer
+pub fn strike(
+    c: usize,
+    m: usize,
+    layer: &mut [u64],
+    keys: &[u64],
+    r: usize,
+) -> Result<usize, Refusal>
     ensures { let L = layer.old in let K = keys.now in
         (result ≡ strike_answer c m L K r) × (layer.new ≡ strike_slice c m L K r) }
 {
-    match fit::ready(c, m, layer, keys) {
-        Answer::Refused(x) => Answer::Refused(x),
-        Answer::Done(rows) => {
-            if rows <= r {
-                return Answer::refused(5, 0);
-            }
-            let p = plan::strike(c, m, layer, keys, r);
-            enter::enter(c, m, p, layer)
-        }
+    let rows = fit::ready(c, m, layer, keys)?;
+    if rows <= r {
+        return words::refused(Cause::NoSuchRow, 0);
     }
+    let p = plan::strike(c, m, layer, keys, r);
+    enter::enter(c, m, Move::Entries(p), layer)
 }

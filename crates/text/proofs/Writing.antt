@@ -3,7 +3,7 @@
 use mathlib.Core.Path.{◌≡◌, refl, sym, ap, ◌∙◌}
 use mathlib.Core.Bool.{Bool, true, false}
 use mathlib.Core.List.{List, [], ◌∷◌, ◌++◌, append_assoc, append-nil}
-use Prim.Native.Nat.{ℕ, suc, ◌+◌, ◌*◌, ◌≤◌, ◌<◌}
+use Prim.Native.Nat.{ℕ, suc, ◌+◌, ◌-◌, ◌*◌, ◌≤◌, ◌<◌}
 use native.Mathlib.Omega.{arith}
 use native.Mathlib.Numerals.{add-one}
 use lib.ListN.{length, take, drop, get_or, set, length-append, length-drop, drop_of_length-le}
@@ -23,6 +23,7 @@ use lib.Seq.{
 }
 use lib.Dec.{leb}
 use borrow.Author.Tests.{leb-true, leb-false}
+use borrow.Rule.Slice.PartMut.{put_mid}
 use Rattle.text.specs.Text.{Wrote, row_text, columns_text, most_shown, front, first_text}
 
 pub wrote_none : (old : List ℕ) (o : ℕ) → Wrote [] old o o old
@@ -33,6 +34,16 @@ wrote_byte b old o h = record {
   end = refl;
   bytes = set_split old o b h ∙ rw (add-one o) (sym (append_snoc (take o old) b (drop (suc o) old)));
 }
+
+-- a part of the buffer that holds a run
+pub wrote_part : (ys part old : List ℕ) (o : ℕ) → part ≡ ys →
+    Wrote ys old o (o + length ys) (put_mid o (o + length ys - o) old part)
+wrote_part ys part old o e =
+    let n : o + length ys - o ≡ length ys = omega arith in
+    record {
+      end = refl;
+      bytes = rw (e, n, take-length ys, drop-drop (length ys) o old) (sym (append_assoc (take o old) ys (drop (o + length ys) old)));
+    }
 
 -- what stands before the end of a run, and behind it, also where the run starts behind the buffer's end
 module _ {ys old new : List ℕ} {o r : ℕ} (w : Wrote ys old o r new) where

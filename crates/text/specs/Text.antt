@@ -1,10 +1,11 @@
 -- What the program writes, as bytes: the message of a line, the header, and one line a row.
-use Rattle.std.specs.Prelude.{◌≡◌, List, [], ◌∷◌, ◌++◌, ℕ, suc, ◌+◌, ◌*◌, length, take, drop}
+use Rattle.std.specs.Prelude.{◌≡◌, Option, Some, None, List, [], ◌∷◌, ◌++◌, ℕ, suc, ◌+◌, ◌*◌, length, take, drop}
 use Rattle.std.proofs.Math.Seq.{paste}
+use Rattle.words.specs.Answer.{cause_number}
 use Rattle.model.specs.Row.{Table, cell}
 use Rattle.decimal.specs.Decimal.{decimal}
 use Rattle.text.specs.declared.Said.{Said}
-use Rattle.text.specs.declared.Said.TheVariants.{Nothing, Unread, Refused}
+use Rattle.text.specs.declared.Said.TheVariants.{Unread, Refused}
 
 -- the bytes that the text buffer holds
 abbrev pub text_room : ℕ
@@ -20,10 +21,11 @@ abbrev pub number : ℕ → ℕ → List ℕ
 number x b = decimal x ++ (b ∷ [])
 
 -- `? L` and `refused N L`, each with its line feed
-unfoldable pub message : ℕ → Said → List ℕ
-message line Nothing = []
-message line Unread = 63 ∷ 32 ∷ number line 10
-message line (Refused n) = 114 ∷ 101 ∷ 102 ∷ 117 ∷ 115 ∷ 101 ∷ 100 ∷ 32 ∷ (number n 32 ++ number line 10)
+unfoldable pub message : ℕ → Option Said → List ℕ
+message line None = []
+message line (Some Unread) = 63 ∷ 32 ∷ number line 10
+message line (Some (Refused cause)) =
+    114 ∷ 101 ∷ 102 ∷ 117 ∷ 115 ∷ 101 ∷ 100 ∷ 32 ∷ (number (cause_number cause) 32 ++ number line 10)
 
 -- `row group source mask`
 abbrev pub header : List ℕ

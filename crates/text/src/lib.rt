@@ -4,12 +4,13 @@
 ghost use Rattle.std.specs.Prelude.{◌≡◌, ◌+◌, ◌*◌, ◌≤◌, length};
 ghost use Rattle.text.specs.Text.{Wrote, text_room, number, message, row_text, most_shown, first_text};
 
-// What a line says: nothing, that it was not read, or a refusal's number.
+use words::Cause;
+
+// What is said of a line: that it was not read, or why it was refused.
 #[derive(Clone, Copy)]
 pub enum Said {
-    Nothing,
     Unread,
-    Refused(u64),
+    Refused(Cause),
 }
 
 // Writes some bytes.
@@ -17,10 +18,9 @@ pub fn put_bytes(bytes: &[u8], out: &mut [u8], at: usize) -> usize
     requires { at + length bytes.now ≤ length out.old }
     ensures { Wrote bytes.now out.old at result out.new }
 {
-    for k in 0..bytes.len() {
-        out[at + k] = bytes[k];
-    }
-    at + bytes.len()
+    let end = at + bytes.len();
+    out[at..end].copy_from_slice(bytes);
+    end
 }
 
 // Writes a number and the byte that stands behind it.
@@ -33,20 +33,20 @@ fn put_number(x: u64, behind: u8, out: &mut [u8; 204800], at: usize) -> usize
     end + 1
 }
 
-// Writes the message of line number `line`.
-pub fn say(said: Said, line: u64, out: &mut [u8; 204800], at: usize) -> usize
+// Writes the message of line number `line`, if anything is said of it.
+pub fn say(said: Option<Said>, line: u64, out: &mut [u8; 204800], at: usize) -> usize
     requires { at + 50 ≤ text_room }
     ensures { Wrote (message line said) out.old at result out.new × (result ≤ at + 50) }
 {
     match said {
-        Said::Nothing => at,
-        Said::Unread => {
+        None => at,
+        Some(Said::Unread) => {
             let a = put_bytes(b"? ", out, at);
             put_number(line, b'\n', out, a)
         }
-        Said::Refused(n) => {
+        Some(Said::Refused(cause)) => {
             let a = put_bytes(b"refused ", out, at);
-            let b = put_number(n, b' ', out, a);
+            let b = put_number(cause.number(), b' ', out, a);
             put_number(line, b'\n', out, b)
         }
     }

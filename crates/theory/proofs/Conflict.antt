@@ -14,7 +14,10 @@ use Rattle.order.proofs.Members.{any_mem, any_of}
 use Rattle.model.specs.Row.{Row, key}
 use Rattle.model.specs.Cell.{CellEdit, to, agree}
 use Rattle.model.specs.Layer.{add, strike, change, Edit, at, Layer, struck, changes_row}
-use Rattle.model.specs.Conflict.{Rule, none, struck_row, same_cell, same_key, clash, met, clashes_with, conflict}
+use Rattle.std.specs.Prelude.{Some, None}
+use Rattle.words.specs.declared.Rule.{Rule}
+use Rattle.words.specs.declared.Rule.TheVariants.{StruckRow as struck_row, SameCell as same_cell, SameKey as same_key}
+use Rattle.model.specs.Conflict.{clash, met, clashes_with, conflict}
 use Rattle.model.specs.Demand.{
   row_changed,
   adds_key,
@@ -27,9 +30,8 @@ use Rattle.model.specs.Demand.{
 }
 use Rattle.theory.proofs.Layer.{of_struck, struck_of, Trade}
 
--- a rule that a test chooses
 -- a rule that is met where a test passes: where it is met, the test passes
-pub met_test : (t : Bool) (r : Rule) → met (cond t r none) ≡ true → t ≡ true
+pub met_test : (t : Bool) (r : Rule) → met (cond t (Some r) None) ≡ true → t ≡ true
 met_test true r h = refl
 met_test false r h = h
 

@@ -19,6 +19,8 @@ use borrow.Author.Tests.{
   not-true,
   not-false,
 }
+use Rattle.words.specs.declared.Origin.{Origin}
+use Rattle.words.specs.declared.Origin.TheVariants.{Base as base, Added as added}
 use Rattle.order.specs.Lists.{count, filter, without}
 use Rattle.order.proofs.Tests.{tests, impossible, and_r, and_of, not_passed}
 use Rattle.order.proofs.Members.{filter_mem, mem_filter, insert_mem, mem_insert}
@@ -45,7 +47,7 @@ use Rattle.model.specs.Layer.{
 use Rattle.model.specs.Form.{sound}
 use Rattle.model.specs.Fit.{keys_below}
 use Rattle.model.specs.Read.{read}
-use Rattle.model.specs.Position.{Origin, base, added, back}
+use Rattle.model.specs.Position.{back}
 use Rattle.model.specs.Edits.{
   deed_before,
   before,

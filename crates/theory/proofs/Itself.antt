@@ -34,7 +34,8 @@ use Rattle.model.specs.Layer.{
 }
 use Rattle.model.specs.Form.{after, follows}
 use Rattle.model.specs.Position.{row_of}
-use Rattle.model.specs.Conflict.{struck_row, same_cell, clash, met, clashes_with, conflict, conflict_place}
+use Rattle.words.specs.declared.Rule.TheVariants.{StruckRow as struck_row, SameCell as same_cell}
+use Rattle.model.specs.Conflict.{clash, met, clashes_with, conflict, conflict_place}
 use Rattle.model.specs.Move.{add_position, moved, move}
 use Rattle.theory.proofs.Conflict.{agree_same, met_test}
 

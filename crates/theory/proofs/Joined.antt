@@ -21,6 +21,8 @@ use native.Mathlib.Omega.{arith}
 use lib.ListN.{length, get_or, set}
 use lib.Dec.{eqb}
 use borrow.Author.Tests.{eqb-true, eqb-false, eq-eqb, ne_eqb, le-ltb, not-false}
+use Rattle.words.specs.declared.Origin.{Origin}
+use Rattle.words.specs.declared.Origin.TheVariants.{Base as base, Added as added}
 use Rattle.order.specs.Lists.{count, any, filter, insert, without, gather, in_turn}
 use Rattle.order.proofs.Tests.{tests}
 use Rattle.order.proofs.Members.{any_of, any_none, filter_mem}
@@ -42,7 +44,7 @@ use Rattle.model.specs.Row.{Row, Table, key, keys}
 use Rattle.model.specs.Cell.{CellEdit, to, put}
 use Rattle.model.specs.Layer.{Deed, add, strike, change, Edit, at, Layer, struck, changes_row, changes_cell}
 use Rattle.model.specs.Read.{read}
-use Rattle.model.specs.Position.{Origin, base, added, back}
+use Rattle.model.specs.Position.{back}
 use Rattle.model.specs.Fit.{keys_below}
 use Rattle.model.specs.Edits.{
   deed_before,

@@ -6,16 +6,15 @@ use mathlib.Core.List.{List, [], ◌∷◌, ◌++◌, map, Memᴰ as Mem}
 use Prim.Native.Nat.{ℕ, suc, ◌+◌, ◌<◌}
 use lib.ListN.{length, get_or, replicate}
 use lib.Dec.{eqb}
+use Rattle.words.specs.declared.Origin.{Origin}
+use Rattle.words.specs.declared.Origin.TheVariants.{Base as base, Added as added}
 use Rattle.order.proofs.Tests.{impossible}
 use Rattle.order.proofs.Ascending.{At, top, deep, at_mem, at_get_or, get_or_at}
 use Rattle.order.proofs.Edited.{at_map}
-use Rattle.words.specs.declared.Refusal.{Refusal}
-use Rattle.words.specs.declared.Back.TheVariants as backed
 use Rattle.model.specs.Row.{Row, Table}
 use Rattle.model.specs.Layer.{add, strike, change, Edit, at, Layer, position, adds_at, struck, changed}
 use Rattle.model.specs.Read.{unless, through, read}
-use Rattle.model.specs.Position.{Origin, base, added, add_numbers, origins, back}
-use Rattle.model.specs.Calls.{origin_answer}
+use Rattle.model.specs.Position.{add_numbers, origins, back}
 use Rattle.theory.proofs.Position.{entry_no, base_shown, add_at_lem, origins_mem}
 use Rattle.theory.proofs.Through.{map_unless, through_same, through_map, through_over}
 
@@ -98,16 +97,3 @@ added_at T L q i O =
 pub base_at : (T : Table) (L : Layer) (q : Row) (s : ℕ) → RowOrigin T L q (base s)
     → (b : Row) × At b s 0 T × (struck s L ≡ false) × (q ≡ changed s L b)
 base_at T L q s O = (get_or T s [], get_or_at T s [] O.stands.0, O.stands.1, O.row)
-
--- what is answered of an origin says which it is
-pub origin_base : (o : Origin) (s : ℕ) → origin_answer o ≡ backed.Base s → o ≡ base s
-origin_base (base t) s e = ap base (cc)
-origin_base (added i) s e = impossible (cc)
-
-pub origin_added : (o : Origin) (i : ℕ) → origin_answer o ≡ backed.Added i → o ≡ added i
-origin_added (base t) i e = impossible (cc)
-origin_added (added k) i e = ap added (cc)
-
-pub origin_never : (o : Origin) (x : Refusal) → origin_answer o ≡ backed.Refused x → ⊥
-origin_never (base t) x e = impossible (cc)
-origin_never (added k) x e = impossible (cc)

@@ -36,6 +36,8 @@ use borrow.Author.Tests.{
   ne_eqb,
   not-true,
 }
+use Rattle.words.specs.declared.Origin.{Origin}
+use Rattle.words.specs.declared.Origin.TheVariants.{Base as base, Added as added}
 use Rattle.order.specs.Lists.{one, count, least_broken}
 use Rattle.order.proofs.Tests.{tests, impossible, and_l, and_r, and_of, one_le, lex_cases}
 use Rattle.order.proofs.Counts.{count_append, count_le}
@@ -61,19 +63,7 @@ use Rattle.model.specs.Layer.{
 }
 use Rattle.model.specs.Form.{sound, after, follows, in_order}
 use Rattle.model.specs.Read.{unless}
-use Rattle.model.specs.Position.{
-  add_up_to,
-  strike_before,
-  shift,
-  row_of,
-  Origin,
-  base,
-  added,
-  add_numbers,
-  origins_from,
-  origins,
-  back,
-}
+use Rattle.model.specs.Position.{add_up_to, strike_before, shift, row_of, add_numbers, origins_from, origins, back}
 use Rattle.model.specs.Move.{add_before}
 use Rattle.theory.proofs.Layer.{adds_same, adds_sum, adds_zero, strikes_same, strikes_sum, strikes_zero}
 use Rattle.theory.proofs.Through.{unless_mem, mem_unless, Comes, through_mem, added_through, shown_through}

@@ -13,6 +13,8 @@ use lib.ListN.{length, get_or, set, length-set}
 use lib.Seq.{get_or-set_same, get_or-set_other, set-set, set-get_or}
 use lib.Dec.{eqb}
 use borrow.Author.Tests.{eqb-true, eqb-false, eq-eqb, ne_eqb}
+use Rattle.words.specs.declared.Origin.{Origin}
+use Rattle.words.specs.declared.Origin.TheVariants.{Base as base, Added as added}
 use Rattle.order.specs.Lists.{count, insert, without}
 use Rattle.order.proofs.Tests.{not_passed, one_ge}
 use Rattle.order.proofs.Members.{mem_insert}
@@ -23,7 +25,7 @@ use Rattle.model.specs.Row.{Row, Table, cell, key, keys, with_key}
 use Rattle.model.specs.Layer.{Deed, add, strike, change, at, Layer, rows_after}
 use Rattle.model.specs.Fit.{keys_below}
 use Rattle.model.specs.Read.{read}
-use Rattle.model.specs.Position.{Origin, base, added, back}
+use Rattle.model.specs.Position.{back}
 use Rattle.model.specs.Edits.{before, enter, add_row, strike_base, strike_origin, strike_row, renumber_row, row_of_key}
 use Rattle.model.specs.Redo.{strike_key, row_before, add_key}
 use Rattle.model.specs.Steps.{adding, striking, step_on}

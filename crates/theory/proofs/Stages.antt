@@ -5,46 +5,46 @@ use native.Mathlib.Nat.{zero-add}
 use mathlib.Core.Path.{◌≡◌, refl, sym, ap, ◌∙◌}
 use mathlib.Core.Bool.{Bool, true, false, cond, ◌&&◌}
 use mathlib.Core.List.{List, [], ◌∷◌, ◌++◌}
+use Rattle.words.specs.declared.Cause.TheVariants.{BadArguments}
+use Rattle.std.specs.Prelude.{Ok, Err}
 use Rattle.order.proofs.Tests.{impossible}
 use Rattle.words.specs.declared.Refusal.{Refusal}
-use Rattle.words.specs.declared.Answer.{Answer}
-use Rattle.words.specs.declared.Answer.TheVariants.{Done, Refused}
 use Rattle.model.specs.Refusals.{Test, refuse, first_met, bad_args}
-use Rattle.words.specs.Answer.{refusal}
+use Rattle.words.specs.Answer.{refusal, Answer}
 
 -- a refusal is no result
-pub never_done : {A : Type 0} {x : Refusal} {k : ℕ} → Refused x ≡ Done k → A
+pub never_done : {A : Type 0} {x : Refusal} {k : ℕ} → Err x ≡ Ok k → A
 never_done e = impossible (cc)
 
 -- the same refusal, `more` entries further on
 abbrev pub raised : ℕ → Refusal → Refusal
-raised more x = refusal x.number (more + x.place)
+raised more x = refusal x.cause (more + x.place)
 
 module _ {A : Type 0} (refused : Refusal → A) where
   -- the call goes on with z, or is refused as the stage before it was
   abbrev pub onward : Answer → A → A
-  onward (Done k) z = z
-  onward (Refused x) z = refused x
+  onward (Ok k) z = z
+  onward (Err x) z = refused x
 
   -- the tests of a stage, whatever it answers where none is met, then the others
   pub stage : (ts us : List Test) (k : ℕ) (z : A)
-      → first_met refused (ts ++ us) z ≡ onward (first_met Refused ts (Done k)) (first_met refused us z)
+      → first_met refused (ts ++ us) z ≡ onward (first_met Err ts (Ok k)) (first_met refused us z)
   stage [] us k z = refl
   stage (refuse n p true ∷ ts) us k z = refl
   stage (refuse n p false ∷ ts) us k z = stage ts us k z
 
   -- a stage that refuses answers for the call; past one that is done the others answer
-  pub stage_refuses : (ts us : List Test) (k : ℕ) (z : A) (x : Refusal) → first_met Refused ts (Done k) ≡ Refused x
+  pub stage_refuses : (ts us : List Test) (k : ℕ) (z : A) (x : Refusal) → first_met Err ts (Ok k) ≡ Err x
       → refused x ≡ first_met refused (ts ++ us) z
   stage_refuses ts us k z x h = sym (stage ts us k z ∙ ap (λ (a : Answer). onward a (first_met refused us z)) h)
 
-  pub stage_done : (ts us : List Test) (k l : ℕ) (z : A) → first_met Refused ts (Done k) ≡ Done l
+  pub stage_done : (ts us : List Test) (k l : ℕ) (z : A) → first_met Err ts (Ok k) ≡ Ok l
       → first_met refused us z ≡ first_met refused (ts ++ us) z
   stage_done ts us k l z h = sym (stage ts us k z ∙ ap (λ (a : Answer). onward a (first_met refused us z)) h)
 
   -- a call's own argument: refused where it does not pass, else the others decide
   pub own_refused : (ok own : Bool) (ts : List Test) (z : A) → own ≡ false
-      → refused (refusal 1 0) ≡ first_met refused (bad_args (ok && own) ∷ ts) z
+      → refused (refusal BadArguments 0) ≡ first_met refused (bad_args (ok && own) ∷ ts) z
   own_refused true own ts z h = rw h
   own_refused false own ts z h = refl
 
@@ -54,19 +54,19 @@ module _ {A : Type 0} (refused : Refusal → A) where
   own_passed false own ts z h = refl
 
 -- a call that is accepted has gone on
-pub reached : (a : Answer) {z : Answer} {k : ℕ} → onward Refused a z ≡ Done k → (l : ℕ) × (a ≡ Done l) × (z ≡ Done k)
-reached (Done l) e = (l, refl, e)
-reached (Refused x) e = never_done e
+pub reached : (a : Answer) {z : Answer} {k : ℕ} → onward Err a z ≡ Ok k → (l : ℕ) × (a ≡ Ok l) × (z ≡ Ok k)
+reached (Ok l) e = (l, refl, e)
+reached (Err x) e = never_done e
 
 -- another result, where a stage has passed
-pub stage_other : (ts : List Test) (k l j : ℕ) → first_met Refused ts (Done k) ≡ Done l → first_met Refused ts (Done j) ≡ Done j
+pub stage_other : (ts : List Test) (k l j : ℕ) → first_met Err ts (Ok k) ≡ Ok l → first_met Err ts (Ok j) ≡ Ok j
 stage_other [] k l j h = refl
 stage_other (refuse n p true ∷ ts) k l j h = never_done h
 stage_other (refuse n p false ∷ ts) k l j h = stage_other ts k l j h
 
 -- the same refusal, whatever the result would have been
-pub stage_same : (ts : List Test) (k j : ℕ) (x : Refusal) → first_met Refused ts (Done k) ≡ Refused x
-    → first_met Refused ts (Done j) ≡ Refused x
+pub stage_same : (ts : List Test) (k j : ℕ) (x : Refusal) → first_met Err ts (Ok k) ≡ Err x
+    → first_met Err ts (Ok j) ≡ Err x
 stage_same [] k j x h = never_done (sym h)
 stage_same (refuse n p true ∷ ts) k j x h = h
 stage_same (refuse n p false ∷ ts) k j x h = stage_same ts k j x h
@@ -76,7 +76,7 @@ abbrev pub Passed : List Test → Type 0
 Passed [] = Unit {0}
 Passed (refuse n p t ∷ ts) = (t ≡ false) × Passed ts
 
-pub stage_passed : (ts : List Test) (k l : ℕ) → first_met Refused ts (Done k) ≡ Done l → Passed ts × (k ≡ l)
+pub stage_passed : (ts : List Test) (k l : ℕ) → first_met Err ts (Ok k) ≡ Ok l → Passed ts × (k ≡ l)
 stage_passed [] k l h = (tt, cc)
 stage_passed (refuse n p true ∷ ts) k l h = never_done h
 stage_passed (refuse n p false ∷ ts) k l h = let w = stage_passed ts k l h in ((refl, w.0), w.1)

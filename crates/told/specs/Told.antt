@@ -1,10 +1,7 @@
 -- An answer as the two numbers that C gets, by the definitions of an answer's number and value.
-use Rattle.std.specs.Prelude.{◌≡◌, ℕ, ◌≤◌}
-use Rattle.words.specs.declared.Answer.{Answer}
-use Rattle.words.specs.declared.Shifted.{Shifted}
-use Rattle.words.specs.declared.Back.{Back}
-use Rattle.words.specs.declared.Back.TheVariants.{Added}
-use Rattle.words.specs.Answer.{number_of, value_of, shift_number, shift_value, back_number, back_value}
+use Rattle.std.specs.Prelude.{◌≡◌, ℕ, ◌≤◌, Option, Ok}
+use Rattle.words.specs.Answer.{number_of, value_of, shift_number, shift_value, back_number, back_value, Answer, Back, Shifted}
+use Rattle.words.specs.declared.Origin.TheVariants.{Added}
 use Rattle.model.specs.Read.{Part}
 use Rattle.view.specs.declared.Seen.{Seen}
 use Rattle.view.specs.View.{seen_as, seen_number, seen_value}
@@ -24,10 +21,10 @@ TellsBack r a = (r.number ≡ back_number a) × (r.value ≡ back_value a)
 
 -- an added entry's number is one of a layer's
 abbrev pub SmallAdded : Back → Type 0
-SmallAdded a = (i : ℕ) → a ≡ Added i → i ≤ 512
+SmallAdded a = (i : ℕ) → a ≡ Ok (Added i) → i ≤ 512
 
 -- 0 for a part of the base column, 1 for the front of the buffer; and the length of the part
-abbrev pub TellsSeen : ToldPart → Seen → Type 0
+abbrev pub TellsSeen : ToldPart → Option Seen → Type 0
 TellsSeen r p = (r.front ≡ seen_number p) × (r.count ≡ seen_value p)
 
 -- the same of a part as the scope names it, where the base column has n numbers

@@ -6,7 +6,7 @@ ghost use Rattle.words.specs.Answer.{shift_value};
 ghost use Rattle.told.specs.Told.{Tells, TellsShift, TellsBack, SmallAdded, TellsSeen};
 
 use view::Seen;
-use words::{Answer, Back, Shifted};
+use words::{Origin, Refusal};
 
 // An answer: number 0 and the result, or the refusal's number and its place.
 #[repr(C)]
@@ -32,18 +32,14 @@ pub struct Part {
     pub count: usize,
 }
 
-pub fn tell(a: Answer) -> Told
-    ensures { Tells result a }
-{
-    match a {
-        Answer::Done(k) => Told {
-            number: 0,
-            value: k,
-        },
-        Answer::Refused(why) => Told {
-            number: why.number,
-            value: why.place,
-        },
+impl From<Result<usize, Refusal>> for Told {
+    ghost from_gives = { λ a r. Tells r a };
+
+    fn from(answer: Result<usize, Refusal>) -> Self {
+        Self {
+            number: words::number(answer),
+            value: words::value(answer),
+        }
     }
 }
 
@@ -55,18 +51,18 @@ fn signed(k: usize) -> i64
     k as i64
 }
 
-// A shift or a place, both small.
-pub fn tell_shift(a: Shifted) -> ToldShift
+// A shift or a place, both small. A function and not a `From`, since it requires that.
+pub fn tell_shift(a: Result<i64, Refusal>) -> ToldShift
     requires { nat_abs (shift_value a) ≤ 512 }
     ensures { TellsShift result a }
 {
     match a {
-        Shifted::By(z) => ToldShift {
+        Ok(z) => ToldShift {
             number: 0,
             value: z,
         },
-        Shifted::Refused(x) => ToldShift {
-            number: x.number,
+        Err(x) => ToldShift {
+            number: x.cause.number(),
             value: signed(x.place),
         },
     }
@@ -80,32 +76,35 @@ fn past_rows(i: usize) -> usize
     65536 + i
 }
 
-// The way back from a row number: value s for base row s, 65536 + i for the added entry number i.
-pub fn tell_back(a: Back) -> Told
+// The way back from a row number: value s for base row s, 65536 + i for the added entry number i. A function and not a
+// `From`, since it requires i to be small.
+pub fn tell_back(a: Result<Origin, Refusal>) -> Told
     requires { SmallAdded a }
     ensures { TellsBack result a }
 {
     match a {
-        Back::Base(s) => Told {
+        Ok(Origin::Base(s)) => Told {
             number: 0,
             value: s,
         },
-        Back::Added(i) => Told {
+        Ok(Origin::Added(i)) => Told {
             number: 0,
             value: past_rows(i),
         },
-        Back::Refused(x) => Told {
-            number: x.number,
+        Err(x) => Told {
+            number: x.cause.number(),
             value: x.place,
         },
     }
 }
 
-pub fn tell_part(p: Seen) -> Part
-    ensures { TellsSeen result p }
-{
-    Part {
-        front: p.number(),
-        count: p.value(),
+impl From<Option<Seen>> for Part {
+    ghost from_gives = { λ p r. TellsSeen r p };
+
+    fn from(part: Option<Seen>) -> Self {
+        Self {
+            front: view::number(part),
+            count: view::value(part),
+        }
     }
 }

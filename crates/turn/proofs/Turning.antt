@@ -24,6 +24,7 @@ use Rattle.scan.proofs.ByKind.{add_kind, strike_kind}
 use Rattle.woven.specs.declared.Meets.{Meets}
 use Rattle.woven.specs.declared.Meets.TheVariants.{Lower, Patch}
 use Rattle.woven.specs.Woven.{meet, meet_kinds, step_of, changes_ahead}
+use Rattle.std.specs.Prelude.{Some}
 use Rattle.turn.specs.declared.Place.{Place}
 use Rattle.turn.specs.declared.Puts.TheVariants.{AsItIs, Changed}
 use Rattle.meet.specs.Meet.{key_in, Keyed, meets_by}
@@ -108,7 +109,7 @@ module _ {c : ℕ} {K N : List ℕ} {mR : ℕ} {r : List ℕ} {mW : ℕ} {w name
         pub lower_turned : (h : Head) → h ≡ head_of E → (x y : ℕ) → x ≡ one (eqb h.kind ADD)
             → y ≡ one (eqb h.kind STRIKE)
             → record {
-              puts = AsItIs;
+              puts = Some AsItIs;
               to = record { i = k.i + 1; j = k.j; m = k.m + 1; adds = k.adds + x; strikes = k.strikes + y };
             } ≡ turned k (edit_of E) (edit_of F) (drop (k.j + 1) W) Lower
         lower_turned h eh x y ex ey =
@@ -121,7 +122,7 @@ module _ {c : ℕ} {K N : List ℕ} {mR : ℕ} {r : List ℕ} {mW : ℕ} {w name
         -- it takes in the changes that were counted
         pub patch_turned : (n : ℕ) → n ≡ changes_ahead F.pos (drop k.j W)
             → record {
-              puts = Changed;
+              puts = Some Changed;
               to = record { i = k.i + 1; j = k.j + n; m = k.m + 1; adds = k.adds + 1; strikes = k.strikes };
             } ≡ turned k (edit_of E) (edit_of F) (drop (k.j + 1) W) Patch
         patch_turned n e =

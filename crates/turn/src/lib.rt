@@ -36,21 +36,20 @@ impl Place {
     }
 }
 
-// The entry that a turn leaves: none; the lower layer's as it is; the upper's at a position; the lower's, an added row, with
+// The entry that a turn leaves: the lower layer's as it is; the upper's at a position; the lower's, an added row, with
 // the changes of that row that the upper goes on with; the upper's, a change, over the lower's of the same cell.
 #[derive(Clone, Copy)]
 pub enum Puts {
-    Nothing,
     AsItIs,
     UpperAt(u64),
     Changed,
     Fused,
 }
 
-// A turn: the entry that it leaves, and where the walk stands then.
+// A turn: the entry that it leaves, where it leaves one, and where the walk stands then.
 #[derive(Clone, Copy)]
 pub struct Turn {
-    pub puts: Puts,
+    pub puts: Option<Puts>,
     pub to: Place,
 }
 
@@ -72,13 +71,11 @@ fn upper_at(p: u64, k: Place) -> Turn
     ensures { result ≡ upper_at p k }
 {
     Turn {
-        puts: Puts::UpperAt(p),
+        puts: Some(Puts::UpperAt(p)),
         to: Place {
-            i: k.i,
             j: k.j + 1,
             m: k.m + 1,
-            adds: k.adds,
-            strikes: k.strikes,
+            ..k
         },
     }
 }
@@ -111,58 +108,50 @@ pub fn next(
     let lower = entry::head_at(c, i * (c + 2), r);
     match meet::meets(lower, meet::key_of(lower, keys), upper, names[j]) {
         Meets::Lower => Turn {
-            puts: Puts::AsItIs,
+            puts: Some(Puts::AsItIs),
             to: Place {
                 i: i + 1,
-                j,
                 m: k.m + 1,
                 adds: k.adds + entry::one_if(lower.kind == Entry::ADD),
                 strikes: k.strikes + entry::one_if(lower.kind == Entry::STRIKE),
+                ..k
             },
         },
         Meets::Upper => upper_at(there, k),
         Meets::UpperHere => upper_at(lower.pos, k),
         Meets::Drop => Turn {
-            puts: Puts::Nothing,
-            to: Place {
-                i: i + 1,
-                j,
-                m: k.m,
-                adds: k.adds,
-                strikes: k.strikes,
-            },
+            puts: None,
+            to: Place { i: i + 1, ..k },
         },
         Meets::Vanish => Turn {
-            puts: Puts::Nothing,
+            puts: None,
             to: Place {
                 i: i + 1,
                 j: j + 1,
-                m: k.m,
                 adds: k.adds + 1,
-                strikes: k.strikes,
+                ..k
             },
         },
         Meets::Patch => {
             let n = meet::changes_ahead(c, upper.pos, mw, w, Cursor { i: j, at: bt });
             Turn {
-                puts: Puts::Changed,
+                puts: Some(Puts::Changed),
                 to: Place {
                     i: i + 1,
                     j: j + n,
                     m: k.m + 1,
                     adds: k.adds + 1,
-                    strikes: k.strikes,
+                    ..k
                 },
             }
         }
         Meets::Fuse => Turn {
-            puts: Puts::Fused,
+            puts: Some(Puts::Fused),
             to: Place {
                 i: i + 1,
                 j: j + 1,
                 m: k.m + 1,
-                adds: k.adds,
-                strikes: k.strikes,
+                ..k
             },
         },
     }

@@ -11,6 +11,7 @@ use denote.Triple.Clauses.{AtExit}
 use borrow.Fn.Kinds.{Dens, ended_of}
 use Rattle.model.specs.Read.{Part, whole_base, buffer_front, empty_base}
 use Rattle.model.specs.Calls.{view_part}
+use Rattle.std.specs.Prelude.{Option}
 use Rattle.view.specs.declared.Seen.{Seen}
 use Rattle.view.specs.View.{InPlace}
 use Rattle.view.proofs.view.Kinds as view_kinds
@@ -35,5 +36,5 @@ module _ (κs : Lfts 2) (a : Dens κs view_kinds.ps) (s s' : AtExit (ended_of 2 
       (p.numbers ∙ sym q.numbers, same_place base out part r r' p.place q.place)
 
 module _ (κs : Lfts 2) (a : Dens κs part_kinds.ps) (s s' : AtExit (ended_of 2 part_kinds.ps part_kinds.r) κs) where
-  pub part_unique : (r r' : Seen) → part_contract.Post κs a r s → part_contract.Post κs a r' s' → r ≡ r'
+  pub part_unique : (r r' : Option Seen) → part_contract.Post κs a r s → part_contract.Post κs a r' s' → r ≡ r'
   part_unique r r' p q = p ∙ sym q

@@ -1,12 +1,12 @@
 -- What shows in a column; and what the viewer hands back: which of the two slices, how much of it, and where it lies.
-use Rattle.std.specs.Prelude.{◌≡◌, Bool, true, false, List, ℕ, eqb}
+use Rattle.std.specs.Prelude.{◌≡◌, Bool, true, false, List, ℕ, eqb, Option, Some, None}
 use Rattle.std.specs.Borrow.{Bor}
 use Rattle.model.specs.Read.{Part, whole_base, buffer_front, empty_base}
 use Rattle.model.specs.Calls.{part_numbers}
 use Rattle.entry.specs.declared.Sight.{Sight}
 use Rattle.entry.specs.declared.Sight.TheVariants.{End, Add, Strike, Change}
 use Rattle.view.specs.declared.Seen.{Seen}
-use Rattle.view.specs.declared.Seen.TheVariants.{Base, Front, Nothing}
+use Rattle.view.specs.declared.Seen.TheVariants.{Base, Front}
 
 -- what a look found shows in column j: an add, a strike, a change of column j
 abbrev pub shows : ℕ → Sight → Bool
@@ -27,18 +27,18 @@ pub record Handed (base out : Bor (List ℕ)) (part : Part) (r : Bor (List ℕ))
   pub place : InPlace base out part r
 
 -- the same without a reference: all n numbers of the base column, so many of the front of the buffer, or nothing
-abbrev pub seen_as : ℕ → Part → Seen
-seen_as n whole_base = Base n
-seen_as n (buffer_front rows) = Front rows
-seen_as n empty_base = Nothing
+abbrev pub seen_as : ℕ → Part → Option Seen
+seen_as n whole_base = Some (Base n)
+seen_as n (buffer_front rows) = Some (Front rows)
+seen_as n empty_base = None
 
 -- its number, 0 for a part of the base column and 1 for the front of the buffer, and its value, the length
-abbrev pub seen_number : Seen → ℕ
-seen_number (Base k) = 0
-seen_number (Front k) = 1
-seen_number Nothing = 0
+abbrev pub seen_number : Option Seen → ℕ
+seen_number (Some (Base k)) = 0
+seen_number (Some (Front k)) = 1
+seen_number None = 0
 
-abbrev pub seen_value : Seen → ℕ
-seen_value (Base k) = k
-seen_value (Front k) = k
-seen_value Nothing = 0
+abbrev pub seen_value : Option Seen → ℕ
+seen_value (Some (Base k)) = k
+seen_value (Some (Front k)) = k
+seen_value None = 0

@@ -9,7 +9,6 @@ ghost use Rattle.model.specs.Calls.{view_part};
 ghost use Rattle.view.specs.View.{shows, Handed, seen_as, seen_number, seen_value};
 
 use entry::{Cursor, Sight};
-use words::Answer;
 
 // What a look found shows in column j: an add, a strike, a change of column j.
 fn shows(j: u64, found: Sight) -> bool
@@ -38,53 +37,51 @@ fn touched(c: usize, m: usize, layer: &[u64], j: usize) -> bool
     false
 }
 
-// What the viewer hands back, without its reference: all numbers of the base column, so many of the front of the buffer,
-// or nothing, where reading is refused.
+// What the viewer hands back, without its reference: all numbers of the base column, or so many of the front of the buffer.
 #[derive(Clone, Copy)]
 pub enum Seen {
     Base(usize),
     Front(usize),
-    Nothing,
 }
 
-impl Seen {
-    // 0 for a part of the base column, 1 for the front of the buffer.
-    pub fn number(self) -> u64
-        ensures { result ≡ seen_number self }
-    {
-        match self {
-            Seen::Base(_) => 0,
-            Seen::Front(_) => 1,
-            Seen::Nothing => 0,
-        }
-    }
-
-    // The length of the part.
-    pub fn value(self) -> usize
-        ensures { result ≡ seen_value self }
-    {
-        match self {
-            Seen::Base(k) => k,
-            Seen::Front(k) => k,
-            Seen::Nothing => 0,
-        }
+// 0 for a part of the base column, 1 for the front of the buffer.
+pub fn number(part: Option<Seen>) -> u64
+    ensures { result ≡ seen_number part }
+{
+    match part {
+        Some(Seen::Front(_)) => 1,
+        _ => 0,
     }
 }
 
-// What the viewer hands back after the read into a buffer of len numbers.
-pub fn view_part(c: usize, m: usize, layer: &[u64], base: &[u64], j: usize, len: usize) -> Seen
+// The length of the part, 0 where nothing is seen.
+pub fn value(part: Option<Seen>) -> usize
+    ensures { result ≡ seen_value part }
+{
+    match part {
+        Some(Seen::Base(k)) => k,
+        Some(Seen::Front(k)) => k,
+        None => 0,
+    }
+}
+
+// What the viewer hands back after the read into a buffer of len numbers; nothing where reading is refused.
+pub fn view_part(
+    c: usize,
+    m: usize,
+    layer: &[u64],
+    base: &[u64],
+    j: usize,
+    len: usize,
+) -> Option<Seen>
     ensures { let B = base.now in
         result ≡ seen_as (length B) (view_part c m layer.now B j len) }
 {
-    match read::answer(c, m, layer, base, j, len) {
-        Answer::Done(rows) => {
-            if touched(c, m, layer, j) {
-                return Seen::Front(rows);
-            }
-            Seen::Base(base.len())
-        }
-        Answer::Refused(_) => Seen::Nothing,
+    let rows = read::answer(c, m, layer, base, j, len).ok()?;
+    if touched(c, m, layer, j) {
+        return Some(Seen::Front(rows));
     }
+    Some(Seen::Base(base.len()))
 }
 
 // After the read: the base column itself where the layer does not show in column j, else the filled front of the buffer.
@@ -102,8 +99,8 @@ pub fn view<'a>(
 {
     let p = view_part(c, m, layer, base, j, out.len());
     match p {
-        Seen::Base(_) => base,
-        Seen::Front(rows) => &out[..rows],
-        Seen::Nothing => &base[..0],
+        Some(Seen::Base(_)) => base,
+        Some(Seen::Front(rows)) => &out[..rows],
+        None => &base[..0],
     }
 }

@@ -23,7 +23,8 @@ use Rattle.model.specs.Layer.{Deed, add, strike, change, Edit, at, Layer, is_add
 use Rattle.model.specs.Form.{follows}
 use Rattle.model.specs.Position.{add_up_to, strike_before, row_of}
 use Rattle.model.specs.Edits.{deed_before, before}
-use Rattle.model.specs.Conflict.{struck_row, same_cell, same_key, clash, met, clashes_with}
+use Rattle.words.specs.declared.Rule.TheVariants.{StruckRow as struck_row, SameCell as same_cell, SameKey as same_key}
+use Rattle.model.specs.Conflict.{clash, met, clashes_with}
 use Rattle.model.specs.Move.{add_before, add_here_below, add_position, moved}
 use Rattle.theory.proofs.Edits.{before_cases, before_lt, before_eq, before_follows, deed_key}
 use Rattle.theory.proofs.Conflict.{met_test}

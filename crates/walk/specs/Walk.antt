@@ -1,5 +1,5 @@
 -- One walk along two layers: the mark in Y parts what stands before an edit of X from what does not.
-use Rattle.std.specs.Prelude.{◌≡◌, true, false, ℕ, ◌+◌, ◌*◌, ◌≤◌, ◌<◌, length, get_or, take, drop, eqb}
+use Rattle.std.specs.Prelude.{◌≡◌, true, false, ℕ, ◌+◌, ◌*◌, ◌≤◌, ◌<◌, length, get_or, take, drop, eqb, Option, None}
 use mathlib.Core.List.{List, [], ◌∷◌, Memᴰ as Mem}
 use Rattle.order.specs.Lists.{one, count}
 use Rattle.order.proofs.Pairs.{AllPairs}
@@ -8,7 +8,8 @@ use Rattle.model.specs.Layer.{Edit, at, add, Layer, position, is_add, is_strike}
 use Rattle.model.specs.Raw.{Held, entry_at, edit_of, layer_of}
 use Rattle.words.specs.Entry.{ADD, STRIKE}
 use Rattle.model.specs.Edits.{before}
-use Rattle.model.specs.Conflict.{Rule, none, clash}
+use Rattle.words.specs.declared.Rule.{Rule}
+use Rattle.model.specs.Conflict.{clash}
 use Rattle.model.specs.Move.{moved}
 use Rattle.entry.specs.Look.{first, after, Placed}
 use Rattle.walk.specs.declared.Mark.{Mark}
@@ -44,8 +45,8 @@ abbrev pub InOrder : Layer → Type 0
 InOrder L = AllPairs before L
 
 -- the rule that an edit meets with the first of those ahead
-abbrev pub rule_ahead : Edit → Layer → Rule
-rule_ahead e [] = none
+abbrev pub rule_ahead : Edit → Layer → Option Rule
+rule_ahead e [] = None
 rule_ahead e (d ∷ L) = clash e d
 
 -- two layers whose edits stand in order, and whose adds of one key stand at one position

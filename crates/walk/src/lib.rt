@@ -73,7 +73,7 @@ fn clashes(c: usize, m: usize, layer: &[u64], k: Cursor, e: Head) -> bool
 {
     if k.i < m {
         let d = entry::head_at(c, k.at, layer);
-        return head::rule_met(e, d) != 0;
+        return head::rule_met(e, d).is_some();
     }
     false
 }

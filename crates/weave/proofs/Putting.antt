@@ -23,9 +23,10 @@ use Rattle.scan.proofs.ByKind.{add_kind, edit_by}
 use Rattle.form.proofs.Flat.{entry_numbers_lem}
 use Rattle.scan.proofs.Laws.{vals_length}
 use Rattle.woven.specs.Woven.{placed, patched, patched_add, fused}
+use Rattle.std.specs.Prelude.{Option, Some, None}
 use Rattle.turn.specs.declared.Place.{Place}
 use Rattle.turn.specs.declared.Puts.{Puts}
-use Rattle.turn.specs.declared.Puts.TheVariants.{Nothing, AsItIs, UpperAt, Changed, Fused}
+use Rattle.turn.specs.declared.Puts.TheVariants.{AsItIs, UpperAt, Changed, Fused}
 use Rattle.turn.specs.Turn.{left, Takes}
 use Rattle.turn.proofs.Turning.{first_in}
 use Rattle.weave.specs.Written.{Row, Leaves}
@@ -78,7 +79,7 @@ inside i m h = by (ltb i m) refl
     by true e = ltb-true i m e
     by false e = absurd (h (ltb-false i m e))
 
-module _ {write : Bool} {c mR : ℕ} {r : List ℕ} {mW : ℕ} {w : List ℕ} {k : Place} {puts : Puts} {len : ℕ}
+module _ {write : Bool} {c mR : ℕ} {r : List ℕ} {mW : ℕ} {w : List ℕ} {k : Place} {puts : Option Puts} {len : ℕ}
     (g : Leaves write c mR r mW w k puts len) where
   pub low : Accepted c g.lower.over mR r g.lower.rows
   low = accepted c g.lower.over mR r g.lower.rows g.lower.form
@@ -126,16 +127,16 @@ module _ (write : Bool) (c mR : ℕ) (r : List ℕ) (mW : ℕ) (w : List ℕ) (k
   F = entry_at c (k.j * (c + 2)) w
 
   -- the lower layer's entry as it is
-  module _ (g : Leaves write c mR r mW w k AsItIs len) where
+  module _ (g : Leaves write c mR r mW w k (Some AsItIs) len) where
     pub lower_in : k.i < mR
     lower_in = inside k.i mR (λ h. rw (left_end c mR k.i r h) at g.takes)
 
     pub lower_room : k.i * (c + 2) + (c + 2) ≤ length r
     lower_room = room_here c mR k.i r (low g).held lower_in
 
-    pub lower_put : Entered write c (left AsItIs (drop k.i R) (drop k.j W)) k.m len (E.pos ∷ E.kind ∷ E.vals)
+    pub lower_put : Entered write c (left (Some AsItIs) (drop k.i R) (drop k.j W)) k.m len (E.pos ∷ E.kind ∷ E.vals)
     lower_put =
-        let L = left AsItIs (drop k.i R) (drop k.j W) in
+        let L = left (Some AsItIs) (drop k.i R) (drop k.j W) in
         let e : L ≡ edit_of E ∷ [] = rw (left_step c mR k.i r lower_in) in
         record {
           numbers = flat_one c L (edit_of E) (E.pos ∷ E.kind ∷ E.vals) e (entry_here (low g) k.i lower_in E.pos);
@@ -145,16 +146,16 @@ module _ (write : Bool) (c mR : ℕ) (r : List ℕ) (mW : ℕ) (w : List ℕ) (k
         }
 
   -- the upper layer's entry at a position
-  module _ (p : ℕ) (g : Leaves write c mR r mW w k (UpperAt p) len) where
+  module _ (p : ℕ) (g : Leaves write c mR r mW w k (Some (UpperAt p)) len) where
     pub upper_in : k.j < mW
     upper_in = inside k.j mW (λ h. rw (left_end c mW k.j w h) at g.takes)
 
     pub upper_room : k.j * (c + 2) + (c + 2) ≤ length w
     upper_room = room_here c mW k.j w (up g).held upper_in
 
-    pub upper_put : Entered write c (left (UpperAt p) (drop k.i R) (drop k.j W)) k.m len (p ∷ F.kind ∷ F.vals)
+    pub upper_put : Entered write c (left (Some (UpperAt p)) (drop k.i R) (drop k.j W)) k.m len (p ∷ F.kind ∷ F.vals)
     upper_put =
-        let L = left (UpperAt p) (drop k.i R) (drop k.j W) in
+        let L = left (Some (UpperAt p)) (drop k.i R) (drop k.j W) in
         let e : L ≡ placed p (edit_of F) ∷ [] = rw (left_step c mW k.j w upper_in) in
         record {
           numbers = flat_one c L (placed p (edit_of F)) (p ∷ F.kind ∷ F.vals) e (entry_here (up g) k.j upper_in p);
@@ -164,7 +165,7 @@ module _ (write : Bool) (c mR : ℕ) (r : List ℕ) (mW : ℕ) (w : List ℕ) (k
         }
 
   -- where a turn takes an edit of each layer, both are there
-  module _ {puts : Puts} (g : Leaves write c mR r mW w k puts len) (upper : (X : Layer) → Takes puts X [] → ⊥)
+  module _ {puts : Option Puts} (g : Leaves write c mR r mW w k puts len) (upper : (X : Layer) → Takes puts X [] → ⊥)
       (lower : (f : Edit) (Y : Layer) → Takes puts [] (f ∷ Y) → ⊥) where
     both_there : (k.i < mR) × (k.j < mW)
     both_there =
@@ -178,7 +179,7 @@ module _ (write : Bool) (c mR : ℕ) (r : List ℕ) (mW : ℕ) (w : List ℕ) (k
         (room_here c mR k.i r (low g).held both_there.0, room_here c mW k.j w (up g).held both_there.1)
 
   -- the lower layer's added row with the upper's changes
-  module _ (g : Leaves write c mR r mW w k Changed len) where
+  module _ (g : Leaves write c mR r mW w k (Some Changed) len) where
     both_in : (k.i < mR) × (k.j < mW)
     both_in = both_there g (λ X h. h) (λ f Y h. h)
 
@@ -188,11 +189,11 @@ module _ (write : Bool) (c mR : ℕ) (r : List ℕ) (mW : ℕ) (w : List ℕ) (k
     abbrev patch : List ℕ
     patch = patched F.pos (drop k.j W) E.vals
 
-    pub changed_put : Entered write c (left Changed (drop k.i R) (drop k.j W)) k.m len (E.pos ∷ E.kind ∷ patch)
+    pub changed_put : Entered write c (left (Some Changed) (drop k.i R) (drop k.j W)) k.m len (E.pos ∷ E.kind ∷ patch)
     changed_put =
         let pe = left_step c mR k.i r both_in.0 in
         let pf = left_step c mW k.j w both_in.1 in
-        let L = left Changed (drop k.i R) (drop k.j W) in
+        let L = left (Some Changed) (drop k.i R) (drop k.j W) in
         let x = patched_add F.pos (drop k.j W) (edit_of E) in
         let e : L ≡ x ∷ [] = rw (pe, pf) in
         let a : eqb E.kind ADD ≡ true = sym (add_kind E) ∙ (rw (pe, pf) at g.takes) in
@@ -211,16 +212,16 @@ module _ (write : Bool) (c mR : ℕ) (r : List ℕ) (mW : ℕ) (w : List ℕ) (k
         }
 
   -- the upper layer's change over the lower's
-  module _ (g : Leaves write c mR r mW w k Fused len) where
+  module _ (g : Leaves write c mR r mW w k (Some Fused) len) where
     fused_in : (k.i < mR) × (k.j < mW)
     fused_in = both_there g (λ X h. h) (λ f Y h. h)
 
     pub fused_room : (k.i * (c + 2) + (c + 2) ≤ length r) × (k.j * (c + 2) + (c + 2) ≤ length w)
     fused_room = room_there g (λ X h. h) (λ f Y h. h)
 
-    pub fused_put : Entered write c (left Fused (drop k.i R) (drop k.j W)) k.m len (E.pos ∷ F.kind ∷ F.vals)
+    pub fused_put : Entered write c (left (Some Fused) (drop k.i R) (drop k.j W)) k.m len (E.pos ∷ F.kind ∷ F.vals)
     fused_put =
-        let L = left Fused (drop k.i R) (drop k.j W) in
+        let L = left (Some Fused) (drop k.i R) (drop k.j W) in
         let x = placed E.pos (edit_of F) in
         let e : L ≡ x ∷ [] =
         rw (left_step c mR k.i r fused_in.0, left_step c mW k.j w fused_in.1)
@@ -244,13 +245,13 @@ wide c {write} {L} e =
     )
 
 -- as many numbers as entries have
-pub left_wide : {write : Bool} {c mR : ℕ} {r : List ℕ} {mW : ℕ} {w : List ℕ} {k : Place} (puts : Puts) {len : ℕ}
+pub left_wide : {write : Bool} {c mR : ℕ} {r : List ℕ} {mW : ℕ} {w : List ℕ} {k : Place} (puts : Option Puts) {len : ℕ}
     → Leaves write c mR r mW w k puts len
     → let L = left puts (drop k.i (layer_of c mR r)) (drop k.j (layer_of c mW w)) in
     length (flat c L) ≡ length L * (c + 2)
 unfolding flat
-left_wide {write} {c} {mR} {r} {mW} {w} {k} Nothing {len} g = sym (zero-mul (c + 2))
-left_wide {write} {c} {mR} {r} {mW} {w} {k} AsItIs {len} g = wide c (lower_put write c mR r mW w k len g)
-left_wide {write} {c} {mR} {r} {mW} {w} {k} (UpperAt p) {len} g = wide c (upper_put write c mR r mW w k len p g)
-left_wide {write} {c} {mR} {r} {mW} {w} {k} Changed {len} g = wide c (changed_put write c mR r mW w k len g)
-left_wide {write} {c} {mR} {r} {mW} {w} {k} Fused {len} g = wide c (fused_put write c mR r mW w k len g)
+left_wide {write} {c} {mR} {r} {mW} {w} {k} None {len} g = sym (zero-mul (c + 2))
+left_wide {write} {c} {mR} {r} {mW} {w} {k} (Some AsItIs) {len} g = wide c (lower_put write c mR r mW w k len g)
+left_wide {write} {c} {mR} {r} {mW} {w} {k} (Some (UpperAt p)) {len} g = wide c (upper_put write c mR r mW w k len p g)
+left_wide {write} {c} {mR} {r} {mW} {w} {k} (Some Changed) {len} g = wide c (changed_put write c mR r mW w k len g)
+left_wide {write} {c} {mR} {r} {mW} {w} {k} (Some Fused) {len} g = wide c (fused_put write c mR r mW w k len g)

@@ -1,7 +1,6 @@
 -- What the functions that write know of the slices, and what stands in the third slice after a piece is written.
-use Rattle.std.specs.Prelude.{◌≡◌, Bool, true, false, ℕ, ◌+◌, ◌*◌, ◌-◌, ◌≤◌, ◌<◌, length, take, drop}
+use Rattle.std.specs.Prelude.{◌≡◌, Bool, true, false, ℕ, ◌+◌, ◌*◌, ◌-◌, ◌≤◌, ◌<◌, length, take, drop, Option, Ok}
 use mathlib.Core.List.{List, ◌++◌, Memᴰ as Mem}
-use Rattle.words.specs.declared.Answer.TheVariants.{Done}
 use Rattle.model.specs.Cell.{CellEdit}
 use Rattle.model.specs.Layer.{change, at, Layer}
 use Rattle.model.specs.Raw.{Held, layer_of, flat}
@@ -33,10 +32,10 @@ pub record Row (c m : ℕ) (xs : List ℕ) (from : Cursor) (width : ℕ) : Type 
 pub record Formed (c m : ℕ) (xs : List ℕ) : Type 0 where
   pub over : ℕ
   pub rows : ℕ
-  pub form : form_answer c over m xs ≡ Done rows
+  pub form : form_answer c over m xs ≡ Ok rows
 
 -- both layers are in form, and a turn leaves edits of theirs, for which there is room where the walk writes
-pub record Leaves (write : Bool) (c mR : ℕ) (r : List ℕ) (mW : ℕ) (w : List ℕ) (k : Place) (puts : Puts) (len : ℕ) : Type 0 where
+pub record Leaves (write : Bool) (c mR : ℕ) (r : List ℕ) (mW : ℕ) (w : List ℕ) (k : Place) (puts : Option Puts) (len : ℕ) : Type 0 where
   pub lower : Formed c mR r
   pub upper : Formed c mW w
   pub lower_upto : k.i ≤ mR

@@ -63,7 +63,7 @@ fn put(
     mw: usize,
     w: &[u64],
     k: Place,
-    puts: Puts,
+    puts: Option<Puts>,
     out: &mut [u64],
 )
     requires { Leaves write c mr r.now mw w.now k puts (length out.old) }
@@ -76,18 +76,18 @@ fn put(
     let bt = k.j * wide;
     let o = k.m * wide;
     match puts {
-        Puts::Nothing => {}
-        Puts::AsItIs => {
+        None => {}
+        Some(Puts::AsItIs) => {
             if write {
                 put_entry(c, entry::pos_at(c, at, r), at, r, out, o);
             }
         }
-        Puts::UpperAt(p) => {
+        Some(Puts::UpperAt(p)) => {
             if write {
                 put_entry(c, p, bt, w, out, o);
             }
         }
-        Puts::Changed => {
+        Some(Puts::Changed) => {
             if write {
                 put_entry(c, entry::pos_at(c, at, r), at, r, out, o);
                 let a = o + 2;
@@ -103,7 +103,7 @@ fn put(
             }
         }
         // A change sets its cell, so the upper layer's value stands.
-        Puts::Fused => {
+        Some(Puts::Fused) => {
             if write {
                 put_entry(c, entry::pos_at(c, at, r), bt, w, out, o);
             }

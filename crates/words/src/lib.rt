@@ -1,11 +1,9 @@
-// The words of the scope that code and contracts share: an entry and its kinds, the limits, a refusal, the answers.
+// The words of the scope that code and contracts share: an entry and its kinds, the limits, a refusal and its cause, the answers.
 #![tactic(auto)]
 
-ghost use Rattle.std.specs.Prelude.{◌≡◌};
-ghost use Rattle.words.specs.declared.Answer.TheVariants.{Refused};
-ghost use Rattle.words.specs.Answer.{refusal};
+ghost use Rattle.std.specs.Prelude.{◌≡◌, Err};
+ghost use Rattle.words.specs.Answer.{cause_number, refusal, number_of, value_of};
 ghost use Rattle.words.specs.Entry.{add_entry, strike_entry, change_entry};
-ghost use Rattle.words.specs.Answer.{number_of, value_of, shift_number, shift_value, back_number, back_value};
 
 // The limits: columns of a table, entries of a layer, rows of a table before and after a layer.
 pub const MOST_COLUMNS: usize = 8;
@@ -61,60 +59,81 @@ impl Entry {
     }
 }
 
-// A refusal: its number in the scope's table, and its place.
-#[derive(Clone, Copy)]
+// Why a call is refused, each under its number in the scope's table.
+#[derive(Clone, Copy, Debug, PartialEq, Eq)]
+pub enum Cause {
+    BadArguments = 1,
+    BadForm = 2,
+    KeysUnordered = 3,
+    BadFit = 4,
+    NoSuchRow = 5,
+    KeyColumn = 6,
+    KeyShown = 7,
+    InConflict = 8,
+    NoRoom = 9,
+    TooManyRows = 10,
+    ShortBuffer = 11,
+    BadFile = 12,
+}
+
+impl Cause {
+    // Its number in the scope's table.
+    pub fn number(self) -> u64
+        ensures { result ≡ cause_number self }
+    {
+        self as u64
+    }
+}
+
+// A refusal: its cause, and its place.
+#[derive(Clone, Copy, Debug, PartialEq, Eq)]
 pub struct Refusal {
-    pub number: u64,
+    pub cause: Cause,
     pub place: usize,
 }
 
-// What most calls answer: a count (rows, entries, a row number; 0 where there is nothing to count), or a refusal.
-#[derive(Clone, Copy)]
-pub enum Answer {
-    Done(usize),
-    Refused(Refusal),
+// The answer that a call is refused, by its cause and place.
+pub fn refused<T>(cause: Cause, place: usize) -> Result<T, Refusal>
+    ensures { result ≡ Err (refusal cause place) }
+{
+    Err(Refusal { cause, place })
 }
 
-// What the shift call answers.
-#[derive(Clone, Copy)]
-pub enum Shifted {
-    By(i64),
-    Refused(Refusal),
+// The rules of conflict between two edits of one base, each under its number.
+#[derive(Clone, Copy, Debug, PartialEq, Eq)]
+pub enum Rule {
+    // One strikes a base row that the other strikes or changes.
+    StruckRow = 1,
+    // Both change one column of one base row, to different values.
+    SameCell = 2,
+    // Both add one key.
+    SameKey = 3,
 }
 
-// What the way back from a row number answers: base row s, or the added entry number i.
-#[derive(Clone, Copy)]
-pub enum Back {
+// What stands at a row number: base row s, or the added entry number i.
+#[derive(Clone, Copy, Debug, PartialEq, Eq)]
+pub enum Origin {
     Base(usize),
     Added(usize),
-    Refused(Refusal),
 }
 
-impl Answer {
-    // A refusal by its number and place.
-    pub fn refused(number: u64, place: usize) -> Self
-        ensures { result ≡ Refused (refusal number place) }
-    {
-        Answer::Refused(Refusal { number, place })
+// The scope's number of what most calls answer, a count (rows, entries, a row number; 0 where there is nothing to count) or a
+// refusal: 0, or the refusal's.
+pub fn number(answer: Result<usize, Refusal>) -> u64
+    ensures { result ≡ number_of answer }
+{
+    match answer {
+        Ok(_) => 0,
+        Err(x) => x.cause.number(),
     }
+}
 
-    // The scope's number of the answer: 0, or the refusal's.
-    pub fn number(self) -> u64
-        ensures { result ≡ number_of self }
-    {
-        match self {
-            Answer::Done(_) => 0,
-            Answer::Refused(x) => x.number,
-        }
-    }
-
-    // The value that stands beside the number: the count, or the refusal's place.
-    pub fn value(self) -> usize
-        ensures { result ≡ value_of self }
-    {
-        match self {
-            Answer::Done(k) => k,
-            Answer::Refused(x) => x.place,
-        }
+// The value that stands beside the number: the count, or the refusal's place.
+pub fn value(answer: Result<usize, Refusal>) -> usize
+    ensures { result ≡ value_of answer }
+{
+    match answer {
+        Ok(k) => k,
+        Err(x) => x.place,
     }
 }

@@ -29,11 +29,11 @@ use lib.ListN.{
   drop_of_length-le,
 }
 use lib.Seq.{length-take-le, take_all, take_at, drop_at, take-take, set-append_left}
+use Rattle.words.specs.Answer.{Answer}
+use Rattle.std.specs.Prelude.{Ok, Err, Option, Some, None}
 use Rattle.order.proofs.Ascending.{At, at_length, at_mem}
 use Rattle.order.proofs.Edited.{at_head, at_tail, at_none}
 use Rattle.order.proofs.Splice.{take_mem, drop_mem, part}
-use Rattle.words.specs.declared.Answer.{Answer}
-use Rattle.words.specs.declared.Answer.TheVariants.{Done, Refused}
 use Rattle.model.specs.Cell.{to}
 use Rattle.model.specs.Layer.{Edit, at, strike, change, Layer}
 use Rattle.model.specs.Raw.{numbers_of, flat}
@@ -41,9 +41,11 @@ use Rattle.words.specs.Entry.{strike_entry, change_entry}
 use Rattle.model.specs.Refusals.{first_met, no_room}
 use Rattle.model.specs.Calls.{edited}
 pub use Rattle.theory.proofs.Readback.{sound_wide}
+use Rattle.words.specs.declared.Entry.{Entry}
 use Rattle.splice.specs.declared.Splice.{Splice}
 use Rattle.enter.specs.declared.Value.{Value}
-use Rattle.store.specs.Numbers.{entry_numbers, coming}
+use Rattle.store.specs.Numbers.{entry_numbers, coming, arrivals}
+use Rattle.store.proofs.Laws.{few_arrive}
 use Rattle.splice.specs.Splice.{
   between,
   begins,
@@ -56,9 +58,10 @@ use Rattle.splice.specs.Splice.{
   room_answer,
   if_done,
 }
-use Rattle.enter.specs.Move.{none_at, number_at, Move, Within, entered, count_after}
+use Rattle.enter.specs.declared.Move.{Move}
+use Rattle.enter.specs.Move.{none_at, number_at, Within, entered, count_after}
 use Rattle.enter.proofs.Laws.{two_none}
-use Rattle.write.specs.Plans.{Splices, BothSplice, Sets, Plans, splices, pairs, sets, OneRun, OneSplice}
+use Rattle.write.specs.Plans.{Brings, Splices, BothSplice, Sets, Plans, splices, pairs, sets, OneRun, OneSplice}
 use Rattle.splice.proofs.Laws.{sub_mul, max_mul}
 
 -- the new entry's numbers are those of its edit
@@ -115,17 +118,29 @@ at_split i d [] a = absurd (at_none a)
 at_split zero d (x ∷ L) a = ap (λ (y : Edit). y ∷ L) (sym (at_head a))
 at_split (suc i) d (x ∷ L) a = rw suc-add (ap (λ (t : Layer). x ∷ t) (at_split i d L (at_tail a)))
 
--- what leads from one layer to another by one splice or by one value takes out one run of edits, and at most one comes
-comes_few : {A : Type 0} (x : A) (k : ℕ) → k ≤ 1 → length (coming k (x ∷ [])) ≡ k
-comes_few x zero h = refl
-comes_few x (suc k) h = omega arith
+-- What comes is these edits, each of c + 2 numbers.
+record Brought (c : ℕ) (comes : Option Entry) (N : Layer) : Type 0 where
+  numbers : coming c comes ≡ flat c N
+  size : length N ≡ arrivals comes
+  wide : Wide c N
 
+brought : (c : ℕ) (comes : Option Entry) (N : Layer) → Brings c comes N → Brought c comes N
+unfolding flat
+brought c None N e = rw e (record { numbers = refl; size = refl; wide = λ x m. absurd (not-nil m) })
+brought c (Some e) N (d, f, n, w) =
+    rw f (record { numbers = n ∙ sym (append-nil (numbers_of c d)); size = refl; wide = one_wide })
+  where
+    one_wide : Wide c (d ∷ [])
+    one_wide x (here g) = ap (λ (y : Edit). length (numbers_of c y)) g ∙ w
+    one_wide x (next m) = absurd (not-nil m)
+
+-- what leads from one layer to another by one splice or by one value takes out one run of edits, and at most one comes
 pub plan_splice : {c : ℕ} {L M : Layer} {p : Move} → Plans c L M p → OneRun p → OneSplice L M
-plan_splice (splices {p} P) o = record {
+plan_splice {c} (splices {p} P) o = record {
   i = p.i;
   gone = p.gone;
-  new = coming p.comes (P.edit ∷ []);
-  few = omega (arith, comes_few P.edit p.comes P.few, P.few);
+  new = P.new;
+  few = omega (arith, (brought c p.comes P.new P.brings).size, few_arrive p.comes);
   within = P.within;
   leads = P.leads;
 }
@@ -141,7 +156,7 @@ plan_splice (sets {x} P) o = record {
 
 -- numbers laid where those of m entries stood, if they are those of a layer; if they are as many
 pub laid_edited : (c m x : ℕ) (M : Layer) (raw : List ℕ) → length (flat c M) ≡ length M * (c + 2)
-    → laid (flat c M) (m * (c + 2)) raw ≡ edited c m (Done x) M raw
+    → laid (flat c M) (m * (c + 2)) raw ≡ edited c m (Ok x) M raw
 unfolding laid
 laid_edited c m x M raw l = rw (l, ← sub_mul m (length M) (c + 2), max_mul m (length M) (c + 2))
 
@@ -162,42 +177,6 @@ pub record Written (c m : ℕ) (raw : List ℕ) (L : Layer) : Type 0 where
   pub size : length L ≡ m
   pub room : m * (c + 2) ≤ length raw
   pub wide : Wide c L
-
--- What comes by a splice is these edits, each of c + 2 numbers.
-record Brings (c : ℕ) (p : Splice) (N : Layer) : Type 0 where
-  numbers : fresh c p ≡ flat c N
-  size : length N ≡ p.comes
-  wide : Wide c N
-
--- one that comes has the numbers of its edit; where none comes, there is none
-brings : (c : ℕ) (p : Splice) (d : Edit) → entry_numbers c p.entry ≡ numbers_of c d → length (numbers_of c d) ≡ c + 2
-    → p.comes ≤ 1 → Brings c p (coming p.comes (d ∷ []))
-unfolding flat
-brings c p d n w h =
-    record { numbers = comes_numbers p.comes; size = comes_few d p.comes h; wide = comes_wide p.comes }
-  where
-    comes_numbers : (k : ℕ) → coming k (entry_numbers c p.entry) ≡ flat c (coming k (d ∷ []))
-    comes_numbers zero = refl
-    comes_numbers (suc k) = n ∙ sym (append-nil (numbers_of c d))
-
-    comes_wide : (k : ℕ) → Wide c (coming k (d ∷ []))
-    comes_wide zero e m = absurd (not-nil m)
-    comes_wide (suc k) e (here f) = ap (λ (x : Edit). length (numbers_of c x)) f ∙ w
-    comes_wide (suc k) e (next m) = absurd (not-nil m)
-
-brings_none : (c m : ℕ) → Brings c (none_at m) []
-unfolding flat
-brings_none c m = record { numbers = refl; size = refl; wide = λ e k. absurd (not-nil k) }
-
--- From L to M by two splices of m entries, the second behind the first.
-record Leads (c m : ℕ) (L M : Layer) (p q : Splice) : Type 0 where
-  new : Layer
-  new₂ : Layer
-  within : BothWithin m p q
-  leads : M ≡ take p.i L ++ (new ++ (take (q.i - (p.i + p.gone)) (drop (p.i + p.gone) L)
-      ++ (new₂ ++ drop (q.i + q.gone) L)))
-  brings : Brings c p new
-  brings₂ : Brings c q new₂
 
 module _ (c m : ℕ) (raw : List ℕ) (L : Layer) (W : Written c m raw L) where
   split : (i : ℕ) → flat c (take i L) ++ flat c (drop i L) ≡ take (m * (c + 2)) raw
@@ -232,7 +211,16 @@ module _ (c m : ℕ) (raw : List ℕ) (L : Layer) (W : Written c m raw L) where
   back i h = middle i m h (omega arith) ∙ ap (flat c) (rest i)
 
   -- Two splices that lead from the layer to M: in numbers it is M, and they leave M's entries.
-  module _ {M : Layer} {p q : Splice} (P : Leads c m L M p q) where
+  module _ {M : Layer} {p q : Splice} (P : BothSplice c L M p q) where
+    both_within : BothWithin m p q
+    both_within = rw W.size at P.within
+
+    abbrev N : Brought c p.comes P.new
+    N = brought c p.comes P.new P.brings
+
+    abbrev N₂ : Brought c q.comes P.new₂
+    N₂ = brought c q.comes P.new₂ P.brings₂
+
     abbrev stays : Layer
     stays = take (q.i - (p.i + p.gone)) (drop (p.i + p.gone) L)
 
@@ -242,15 +230,15 @@ module _ (c m : ℕ) (raw : List ℕ) (L : Layer) (W : Written c m raw L) where
     leads_numbers : take (begins c p) raw ++ (fresh c p ++ (between (resumes c p) (begins c q) raw
         ++ (fresh c q ++ between (resumes c q) (m * (c + 2)) raw))) ≡ flat c M
     leads_numbers =
-        let B = P.within in
+        let B = both_within in
         rw (
           P.leads,
           flat_append c (take p.i L) (P.new ++ (stays ++ (P.new₂ ++ end))),
           flat_append c P.new (stays ++ (P.new₂ ++ end)),
           flat_append c stays (P.new₂ ++ end),
           flat_append c P.new₂ end,
-          P.brings.numbers,
-          P.brings₂.numbers,
+          N.numbers,
+          N₂.numbers,
           front p.i (omega (arith, B.first, B.second)),
           middle (p.i + p.gone) q.i B.first (omega (arith, B.second)),
           back (q.i + q.gone) B.second,
@@ -258,7 +246,7 @@ module _ (c m : ℕ) (raw : List ℕ) (L : Layer) (W : Written c m raw L) where
 
     leads_count : count_two m p q ≡ length M
     leads_count =
-        let B = P.within in
+        let B = both_within in
         omega (
           arith,
           ap length P.leads,
@@ -270,8 +258,8 @@ module _ (c m : ℕ) (raw : List ℕ) (L : Layer) (W : Written c m raw L) where
           length-take-le (q.i - (p.i + p.gone)) (drop (p.i + p.gone) L)
               (omega (arith, length-drop (p.i + p.gone) L, B.first, B.second, W.size)),
           length-drop (q.i + q.gone) L,
-          P.brings.size,
-          P.brings₂.size,
+          N.size,
+          N₂.size,
           B.first,
           B.second,
           W.size,
@@ -282,45 +270,29 @@ module _ (c m : ℕ) (raw : List ℕ) (L : Layer) (W : Written c m raw L) where
         let r = p.i + p.gone in
         let kept : Wide c stays = λ e k. W.wide e (drop_mem r L e (take_mem (q.i - r) (drop r L) e k)) in
         let tail : Wide c (P.new₂ ++ end) =
-        wide_append c P.new₂ end P.brings₂.wide (λ e k. W.wide e (drop_mem (q.i + q.gone) L e k)) in
+        wide_append c P.new₂ end N₂.wide (λ e k. W.wide e (drop_mem (q.i + q.gone) L e k)) in
         rw P.leads (wide_append c (take p.i L) (P.new ++ (stays ++ (P.new₂ ++ end)))
         (λ e k. W.wide e (take_mem p.i L e k))
-        (wide_append c P.new (stays ++ (P.new₂ ++ end)) P.brings.wide (wide_append c stays (P.new₂ ++ end) kept tail)))
+        (wide_append c P.new (stays ++ (P.new₂ ++ end)) N.wide (wide_append c stays (P.new₂ ++ end) kept tail)))
 
-    leads_edited : (x : ℕ) → spliced_two c m p q raw ≡ edited c m (Done x) M raw
+    leads_edited : (x : ℕ) → spliced_two c m p q raw ≡ edited c m (Ok x) M raw
     unfolding spliced_two
     leads_edited x =
         ap (λ (t : List ℕ). laid t (m * (c + 2)) raw) leads_numbers ∙ laid_edited c m x M raw (flat_length c M leads_wide)
 
   -- one splice leads to M as two of which the second, behind all entries, is none
-  one_leads : {M : Layer} {p : Splice} → Splices c L M p → Leads c m L M p (none_at m)
+  one_leads : {M : Layer} {p : Splice} → Splices c L M p → BothSplice c L M p (none_at m)
   one_leads {M} {p} P =
       let r = p.i + p.gone in
       let none : drop (m + 0) L ≡ [] = drop_of_length-le L {i = m + 0} (omega (arith, W.size)) in
       record {
-        new = coming p.comes (P.edit ∷ []);
+        new = P.new;
         new₂ = [];
-        within = record {
-          first = omega (arith, P.within, W.size);
-          second = omega arith;
-          few = P.few;
-          few₂ = omega arith;
-        };
+        within = record { first = omega (arith, P.within, W.size); second = omega (arith, W.size) };
         leads = rw (none, rest r, append-nil (drop r L)) P.leads;
-        brings = brings c p P.edit P.numbers P.wide P.few;
-        brings₂ = brings_none c m;
+        brings = P.brings;
+        brings₂ = refl;
       }
-
-  -- so do two splices, each of which brings its own edit
-  two_leads : {M : Layer} {p q : Splice} → BothSplice c L M p q → Leads c m L M p q
-  two_leads {M} {p} {q} P = record {
-    new = coming p.comes (P.edit ∷ []);
-    new₂ = coming q.comes (P.edit₂ ∷ []);
-    within = rw W.size at P.within;
-    leads = P.leads;
-    brings = brings c p P.edit P.numbers P.wide P.within.few;
-    brings₂ = brings c q P.edit₂ P.numbers₂ P.wide₂ P.within.few₂;
-  }
 
   -- A value that leads from the layer to M: in numbers it is M, which has as many entries.
   module _ {M : Layer} {x : Value} (P : Sets c L M x) where
@@ -363,7 +335,7 @@ module _ (c m : ℕ) (raw : List ℕ) (L : Layer) (W : Written c m raw L) where
           below,
         )
 
-    set_edited : (k : ℕ) → set raw (number_at c x.i x.j) x.v ≡ edited c m (Done k) M raw
+    set_edited : (k : ℕ) → set raw (number_at c x.i x.j) x.v ≡ edited c m (Ok k) M raw
     set_edited k =
         let q = number_at c x.i x.j in
         let R = drop (m * (c + 2)) raw in
@@ -389,24 +361,24 @@ module _ (c m : ℕ) (raw : List ℕ) (L : Layer) (W : Written c m raw L) where
   -- What leads from the layer to M answers what is left of a call for M, and leaves M in the slice.
   pub plan_count : {M : Layer} {p : Move} → Plans c L M p → count_after m p ≡ length M
   plan_count (splices P) = omega (arith, leads_count (one_leads P))
-  plan_count (pairs P) = leads_count (two_leads P)
+  plan_count (pairs P) = leads_count P
   plan_count (sets P) = sym (set_count P)
 
   pub plan_answer : {M : Layer} {p : Move} → Plans c L M p
-      → room_answer c (length raw) (count_after m p) ≡ first_met Refused (no_room c (length raw) M ∷ []) (Done (length M))
+      → room_answer c (length raw) (count_after m p) ≡ first_met Err (no_room c (length raw) M ∷ []) (Ok (length M))
   plan_answer P = rw (plan_count P)
 
-  pub plan_done : {M : Layer} {p : Move} → Plans c L M p → (k : ℕ) → entered c m p raw ≡ edited c m (Done k) M raw
+  pub plan_done : {M : Layer} {p : Move} → Plans c L M p → (k : ℕ) → entered c m p raw ≡ edited c m (Ok k) M raw
   plan_done (splices {p} P) k = sym (two_none c m p raw) ∙ leads_edited (one_leads P) k
-  plan_done (pairs P) k = leads_edited (two_leads P) k
+  plan_done (pairs P) k = leads_edited P k
   plan_done (sets P) k = set_edited P k
 
   pub plan_edited : {M : Layer} {p : Move} → Plans c L M p → (r : Answer)
       → if_done r (entered c m p raw) raw ≡ edited c m r M raw
-  plan_edited P (Done k) = plan_done P k
-  plan_edited P (Refused x) = refl
+  plan_edited P (Ok k) = plan_done P k
+  plan_edited P (Err x) = refl
 
   pub plan_within : {M : Layer} {p : Move} → Plans c L M p → Within c m p
-  plan_within (splices P) = ((one_leads P).within.first, P.few)
-  plan_within (pairs P) = (two_leads P).within
+  plan_within (splices P) = omega (arith, P.within, W.size)
+  plan_within (pairs P) = both_within P
   plan_within (sets P) = (below P, P.column)

@@ -1,34 +1,38 @@
 -- What leads from one layer to another, as lists and in numbers.
-use Rattle.std.specs.Prelude.{◌≡◌, [], ◌∷◌, ◌++◌, ℕ, ◌+◌, ◌-◌, ◌≤◌, ◌<◌, length, take, drop, set}
+use Rattle.std.specs.Prelude.{◌≡◌, [], ◌∷◌, ◌++◌, ℕ, ◌+◌, ◌-◌, ◌≤◌, ◌<◌, length, take, drop, set, Option, Some, None}
 use Rattle.order.proofs.Ascending.{At}
 use Rattle.model.specs.Layer.{Edit, Layer}
 use Rattle.model.specs.Raw.{numbers_of}
+use Rattle.words.specs.declared.Entry.{Entry}
 use Rattle.splice.specs.declared.Splice.{Splice}
 use Rattle.enter.specs.declared.Value.{Value}
-use Rattle.store.specs.Numbers.{entry_numbers, coming}
+use Rattle.store.specs.Numbers.{entry_numbers}
 use Rattle.splice.specs.Splice.{BothWithin}
-use Rattle.enter.specs.Move.{Move, entries, both, number}
+use Rattle.enter.specs.declared.Move.{Move}
+use Rattle.enter.specs.declared.Move.TheVariants.{Entries as entries, Both as both, Number as number}
 
--- from L to M: entries i to i + gone go, and at most one comes, whose c + 2 numbers are those of its edit
+-- what comes is these edits: none, or one whose c + 2 numbers are those of the entry
+abbrev pub Brings : ℕ → Option Entry → Layer → Type 0
+Brings c None new = new ≡ []
+Brings c (Some e) new =
+    (d : Edit) × (new ≡ d ∷ []) × (entry_numbers c e ≡ numbers_of c d) × (length (numbers_of c d) ≡ c + 2)
+
+-- from L to M: entries i to i + gone go, and what comes stands in their place
 pub record Splices (c : ℕ) (L M : Layer) (p : Splice) : Type 0 where
-  pub edit : Edit
-  pub few : p.comes ≤ 1
+  pub new : Layer
   pub within : p.i + p.gone ≤ length L
-  pub leads : M ≡ take p.i L ++ (coming p.comes (edit ∷ []) ++ drop (p.i + p.gone) L)
-  pub numbers : entry_numbers c p.entry ≡ numbers_of c edit
-  pub wide : length (numbers_of c edit) ≡ c + 2
+  pub leads : M ≡ take p.i L ++ (new ++ drop (p.i + p.gone) L)
+  pub brings : Brings c p.comes new
 
--- from L to M by two splices, the second behind the first; what comes by each has the numbers of its edit
+-- from L to M by two splices, the second behind the first
 pub record BothSplice (c : ℕ) (L M : Layer) (p q : Splice) : Type 0 where
-  pub edit : Edit
-  pub edit₂ : Edit
+  pub new : Layer
+  pub new₂ : Layer
   pub within : BothWithin (length L) p q
-  pub leads : M ≡ take p.i L ++ (coming p.comes (edit ∷ []) ++ (take (q.i - (p.i + p.gone)) (drop (p.i + p.gone) L)
-      ++ (coming q.comes (edit₂ ∷ []) ++ drop (q.i + q.gone) L)))
-  pub numbers : entry_numbers c p.entry ≡ numbers_of c edit
-  pub wide : length (numbers_of c edit) ≡ c + 2
-  pub numbers₂ : entry_numbers c q.entry ≡ numbers_of c edit₂
-  pub wide₂ : length (numbers_of c edit₂) ≡ c + 2
+  pub leads : M ≡ take p.i L ++ (new ++ (take (q.i - (p.i + p.gone)) (drop (p.i + p.gone) L)
+      ++ (new₂ ++ drop (q.i + q.gone) L)))
+  pub brings : Brings c p.comes new
+  pub brings₂ : Brings c q.comes new₂
 
 -- from L to M: in place of edit i stands one whose numbers are the same but for value j
 pub record Sets (c : ℕ) (L M : Layer) (x : Value) : Type 0 where

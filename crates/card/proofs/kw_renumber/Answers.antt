@@ -7,4 +7,4 @@ use Rattle.card.proofs.kw_renumber.Goals as goal
 pub returns : goal.returns
 returns c =
     let f = c.renumber.ensures in
-    ((c.tell.ensures.0 ∙ ap number_of f.0, c.tell.ensures.1 ∙ ap value_of f.0), f.1)
+    ((c.into.ensures.0 ∙ ap number_of f.0, c.into.ensures.1 ∙ ap value_of f.0), f.1)

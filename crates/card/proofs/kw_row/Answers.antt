@@ -5,4 +5,4 @@ use Rattle.words.specs.Answer.{number_of, value_of}
 use Rattle.card.proofs.kw_row.Goals as goal
 
 pub returns : goal.returns
-returns c = let f = c.row.ensures in (c.tell.ensures.0 ∙ ap number_of f, c.tell.ensures.1 ∙ ap value_of f)
+returns c = let f = c.row.ensures in (c.into.ensures.0 ∙ ap number_of f, c.into.ensures.1 ∙ ap value_of f)

@@ -3,8 +3,7 @@
 use Prim.Native.Nat.{◌≤◌}
 use lib.IntN.{nat_abs}
 use mathlib.Core.Path.{sym, ap, subst, ◌∙◌}
-use Rattle.words.specs.declared.Shifted.{Shifted}
-use Rattle.words.specs.Answer.{shift_number, shift_value}
+use Rattle.words.specs.Answer.{shift_number, shift_value, Shifted}
 use Rattle.told.proofs.Places.{shift_small}
 use Rattle.card.proofs.kw_shift_at.Goals as goal
 

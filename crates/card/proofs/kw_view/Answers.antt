@@ -7,4 +7,4 @@ use Rattle.card.proofs.kw_view.Goals as goal
 pub returns : goal.returns
 returns c =
     let f = c.view_part.ensures in
-    (c.tell_part.ensures.0 ∙ ap seen_number f, c.tell_part.ensures.1 ∙ ap seen_value f)
+    (c.into.ensures.0 ∙ ap seen_number f, c.into.ensures.1 ∙ ap seen_value f)

@@ -28,18 +28,18 @@ pub loop-i-preserved : goal.loop-i-preserved
 loop-i-preserved c =
     let l = c.loop-i in
     let xs = c.args.bytes.now in
-    let g = sym c.grow.ensures ∙ c.in-To.is in (
+    let g = sym c.grow.ensures ∙ c.in_ok-v.was in (
       omega arith,
       omega arith,
       grown_fits l.v (get_or xs l.i 0) _ g,
       l.invariant.3 ∙ onward xs l.k l.v l.i (omega arith) _ c.if-b-eq32.false (omega arith) g,
     )
 
-pub returns-in-Over : goal.returns-in-Over
-returns-in-Over c =
+pub returns-in_err-v : goal.returns-in_err-v
+returns-in_err-v c =
     let l = c.loop-i in
-    let g = sym c.grow.ensures ∙ c.in-Over.is in
-    sym (l.invariant.3 ∙ over _ l.k l.v l.i (omega arith) c.if-b-eq32.false (omega arith) g)
+    let g = sym c.grow.ensures ∙ c.in_err-v.was in
+    c.from_residual.ensures ∙ sym (l.invariant.3 ∙ over _ l.k l.v l.i (omega arith) c.if-b-eq32.false (omega arith) g)
 
 pub returns-then-k-lt1-2 : goal.returns-then-k-lt1-2
 returns-then-k-lt1-2 c =

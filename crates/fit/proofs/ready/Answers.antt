@@ -3,6 +3,8 @@
 use mathlib.Core.Path.{◌≡◌, sym, ◌∙◌}
 use mathlib.Core.Bool.{true}
 use lib.ListN.{length}
+use Rattle.std.proofs.Common.{rules}
+use Rattle.std.specs.Prelude.{Err}
 use Rattle.model.specs.Form.{args_ok}
 use Rattle.model.specs.Calls.{form_answer}
 use Rattle.theory.proofs.Raw.{args_held}
@@ -47,16 +49,17 @@ formed c =
 pub returns-then-not-ascend : goal.returns-then-not-ascend
 returns-then-not-ascend c =
     c.refused-then-not-ascend.ensures
-    ∙ keys_refused _ _ _ _ _ (sym (formed (goal.at.returns-then-not-ascend c).After-judge) ∙ c.in-Done.is)
+    ∙ keys_refused _ _ _ _ _ (sym (formed (goal.at.returns-then-not-ascend c).After-judge) ∙ c.in_ok-rows.was)
     (sym c.ascend.ensures ∙ c.if-not-ascend.true)
 
-pub returns-in-Refused : goal.returns-in-Refused
-returns-in-Refused c =
-    form_refused _ _ _ _ c.in-Refused.x (sym (formed (goal.at.returns-in-Refused c).After-judge) ∙ c.in-Refused.is)
+pub returns-in_err-rows : goal.returns-in_err-rows
+returns-in_err-rows c =
+    let e : c.from_residual.result ≡ Err c.in_err-rows.field-0.0 = search rules in
+    e ∙ form_refused _ _ _ _ _ (sym (formed (goal.at.returns-in_err-rows c).After-judge) ∙ c.in_err-rows.was)
 
-pub returns-else-not-ascend : goal.returns-else-not-ascend
-returns-else-not-ascend c =
-    let f = sym (formed (goal.at.returns-else-not-ascend c).After-judge) ∙ c.in-Done.is in
+pub returns : goal.returns
+returns c =
+    let f = sym (formed (goal.at.returns c).After-judge) ∙ c.in_ok-rows.was in
     ready_done _ _ _ _ _ f (sym c.ascend.ensures ∙ c.if-not-ascend.false) _
     (sym (place _ _ _ _ (in_form _ _ _ _ _ f)))
     (all_fit c.form_and_fit-seen.ensures c.if-seen-m.false)

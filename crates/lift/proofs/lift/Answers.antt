@@ -5,23 +5,22 @@ use mathlib.Core.Path.{◌≡◌, sym, ◌∙◌}
 use mathlib.Core.Bool.{false}
 use Prim.Native.Nat.{ℕ, ◌+◌, ◌*◌, ◌≤◌, ◌<◌}
 use lib.ListN.{length}
+use Rattle.words.specs.declared.Origin.TheVariants.{Base as base, Added as added}
 use Rattle.order.proofs.Ascending.{At, at_length}
 use Rattle.model.specs.Row.{Row}
 use Rattle.model.specs.Layer.{at, add, struck}
 use Rattle.model.specs.Raw.{layer_of}
-use Rattle.model.specs.Position.{base, added, back}
-use Rattle.theory.proofs.Origin.{origin_never}
+use Rattle.model.specs.Position.{back}
 use Rattle.landing.proofs.Known.{known}
+use Rattle.plan.proofs.Answers.{may_look}
 use Rattle.plan.proofs.Planned.{of_base, of_added}
 use Rattle.lift.proofs.Between.{gone_held, gone_own}
 use Rattle.lift.proofs.Taken.{values_in, values_of, base_taken_lem, added_taken}
 use Rattle.lift.proofs.lift.Goals as goal
 use Rattle.lift.proofs.lift.Goals.{After-out-splice, In-Base}
 
-pub origin_of-o-requires : goal.origin_of-o-requires
-origin_of-o-requires c =
-    let k = (known c.requires.0).acc in
-    (k.held, k.base, k.ordered, c.requires.1)
+pub origin_of-requires : goal.origin_of-requires
+origin_of-requires c = may_look c.requires.0 c.requires.1
 
 -- it is a base row
 of_row : (c : In-Base) → let a = c.args in
@@ -29,7 +28,9 @@ of_row : (c : In-Base) → let a = c.args in
     let L = layer_of a.c a.m a.layer.now in
     (back (length a.keys.now) L a.r ≡ base s) × (s < length a.keys.now) × (struck s L ≡ false)
 of_row c =
-    of_base (known c.requires.0) c.args.r c.requires.1 _ (sym c.origin_of-o.ensures ∙ c.in-Base.is)
+    let e = sym c.origin_of.ensures ∙ c.in-Base.is in
+    let w = of_base (known c.requires.0) c.args.r c.requires.1 _ e in
+    (e, w.0, w.1)
 
 pub strike_base-splice-requires : goal.strike_base-splice-requires
 strike_base-splice-requires c = (c.requires.0, (of_row (goal.at.strike_base-splice-requires c).In-Base).1, (of_row (goal.at.strike_base-splice-requires c).In-Base).2)
@@ -55,7 +56,9 @@ of_entry : (c : After-out-splice) → let a = c.args in
     let L = layer_of a.c a.m a.layer.now in
     (back (length a.keys.now) L a.r ≡ added i) × (s : ℕ) × (q : Row) × At (at s (add q)) i 0 L
 of_entry c =
-    of_added (known c.requires.0) c.args.r c.requires.1 _ (sym c.origin_of-o.ensures ∙ c.in-Added.is)
+    let e = sym c.origin_of.ensures ∙ c.in-Added.is in
+    let w = of_added (known c.requires.0) c.args.r c.requires.1 _ e in
+    (e, w.0, w.1, w.2)
 
 -- where its values stand
 there : (c : After-out-splice) → let a = c.args in
@@ -91,9 +94,3 @@ returns-in-Added c =
     let p = c.requires in
     added_taken p.0 a.w a.table.now p.2 p.3 p.4 a.r p.1 _ (of_entry (goal.at.returns-in-Added c).After-out-splice)
     c.out-splice.result c.row_at-row.result c.out-splice.ensures c.row_at-row.ensures
-
-pub returns-in-Refused : goal.returns-in-Refused
-returns-in-Refused c =
-    let a = c.args in
-    absurd (origin_never (back (length a.keys.now) (layer_of a.c a.m a.layer.now) a.r) _
-    (sym c.origin_of-o.ensures ∙ c.in-Refused.is))

@@ -2,10 +2,11 @@
 -- Assumes nothing.
 use native.Mathlib.Omega.{arith}
 use mathlib.Core.List.{[], ◌∷◌}
-use mathlib.Core.Path.{◌≡◌, sym, ◌∙◌}
+use mathlib.Core.Path.{◌≡◌, sym, ap, ◌∙◌}
 use lib.ListN.{drop, get_or}
 use Rattle.line.specs.Line.{fields, line_of}
 use Rattle.line.specs.Fields.{with_fields}
+use Rattle.std.specs.Prelude.{Some}
 use Rattle.line.proofs.Reading.{ends, goes_on_lem, no_number}
 use Rattle.field.proofs.Pass.{next_within}
 use Rattle.line.proofs.Sign.{too_short, space_first, no_space, signed}
@@ -30,7 +31,7 @@ pub with_second-requires : goal.with_second-requires
 with_second-requires c =
     let a = c.args in
     let found = c.number_at in
-    next_within a.bytes.now 2 found.result c.in-More.a c.in-More.next (omega arith) found.ensures c.in-More.is
+    next_within a.bytes.now 2 found.result c.in-More.a c.in-More.next (omega arith) found.ensures (c.in_ok-a.was ∙ ap Some c.in-More.is)
 
 pub returns-in-Last : goal.returns-in-Last
 returns-in-Last c =
@@ -39,7 +40,7 @@ returns-in-Last c =
     c.one.ensures
     ∙ sym
     (after-sign (goal.at.returns-in-Last c).Else-bytes-ne32
-    ∙ ends (get_or xs 0 0 ∷ []) [] xs 2 found.result c.in-Last.a found.ensures c.in-Last.is)
+    ∙ ends (get_or xs 0 0 ∷ []) [] xs 2 found.result c.in-Last.a found.ensures (c.in_ok-a.was ∙ ap Some c.in-Last.is))
 
 pub returns-in-More : goal.returns-in-More
 returns-in-More c =
@@ -48,12 +49,13 @@ returns-in-More c =
     c.with_second.ensures
     ∙ sym
     (after-sign (goal.at.returns-in-More c).Else-bytes-ne32
-    ∙ goes_on_lem (get_or xs 0 0 ∷ []) [] xs 2 found.result c.in-More.a c.in-More.next found.ensures c.in-More.is)
+    ∙ goes_on_lem (get_or xs 0 0 ∷ []) [] xs 2 found.result c.in-More.a c.in-More.next found.ensures (c.in_ok-a.was ∙ ap Some c.in-More.is))
 
-pub returns-in-Bad : goal.returns-in-Bad
-returns-in-Bad c =
+pub returns-in_err-a : goal.returns-in_err-a
+returns-in_err-a c =
     let found = c.number_at in
     let xs = c.args.bytes.now in
-    sym
-    (after-sign (goal.at.returns-in-Bad c).Else-bytes-ne32
-    ∙ no_number (get_or xs 0 0 ∷ []) [] xs 2 found.result found.ensures c.in-Bad.is)
+    c.from_residual.ensures
+    ∙ sym
+    (after-sign (goal.at.returns-in_err-a c).Else-bytes-ne32
+    ∙ no_number (get_or xs 0 0 ∷ []) [] xs 2 found.result found.ensures c.in_err-a.was)

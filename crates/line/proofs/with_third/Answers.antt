@@ -2,7 +2,8 @@
 -- Assumes nothing.
 use mathlib.Core.List.{[], ◌∷◌}
 use lib.ListN.{drop}
-use mathlib.Core.Path.{sym, ◌∙◌}
+use mathlib.Core.Path.{sym, ap, ◌∙◌}
+use Rattle.std.specs.Prelude.{Some}
 use Rattle.line.proofs.Reading.{ends, goes_on_lem, no_number}
 use Rattle.line.proofs.Sign.{too_many}
 use Rattle.line.proofs.with_third.Goals as goal
@@ -12,7 +13,7 @@ returns-in-Last c =
     let a = c.args in
     let found = c.number_at in
     c.three.ensures
-    ∙ sym (ends (a.sign ∷ []) (a.a ∷ a.b ∷ []) a.bytes.now a.at found.result c.in-Last.c found.ensures c.in-Last.is)
+    ∙ sym (ends (a.sign ∷ []) (a.a ∷ a.b ∷ []) a.bytes.now a.at found.result c.in-Last.c found.ensures (c.in_ok-c.was ∙ ap Some c.in-Last.is))
 
 pub returns-in-More : goal.returns-in-More
 returns-in-More c =
@@ -20,12 +21,13 @@ returns-in-More c =
     let found = c.number_at in
     let next = c.in-More.field-1 in
     sym
-    (goes_on_lem (a.sign ∷ []) (a.a ∷ a.b ∷ []) a.bytes.now a.at found.result c.in-More.field-0 next found.ensures c.in-More.is
+    (goes_on_lem (a.sign ∷ []) (a.a ∷ a.b ∷ []) a.bytes.now a.at found.result c.in-More.field-0 next found.ensures (c.in_ok-c.was ∙ ap Some c.in-More.is)
     ∙ too_many (a.sign ∷ []) a.a a.b c.in-More.field-0 (drop next a.bytes.now))
 
-pub returns-in-Bad : goal.returns-in-Bad
-returns-in-Bad c =
+pub returns-in_err-c : goal.returns-in_err-c
+returns-in_err-c c =
     let a = c.args in
     let found = c.number_at in
-    sym
-    (no_number (a.sign ∷ []) (a.a ∷ a.b ∷ []) a.bytes.now a.at found.result found.ensures c.in-Bad.is)
+    c.from_residual.ensures
+    ∙ sym
+    (no_number (a.sign ∷ []) (a.a ∷ a.b ∷ []) a.bytes.now a.at found.result found.ensures c.in_err-c.was)

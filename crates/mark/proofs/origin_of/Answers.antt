@@ -6,7 +6,6 @@ use Prim.Native.Nat.{ℕ, ◌≤◌}
 use Rattle.order.proofs.Counts.{count_le}
 use Rattle.model.specs.Layer.{is_add}
 use Rattle.model.specs.Raw.{layer_of}
-use Rattle.model.specs.Calls.{origin_answer}
 use Rattle.model.specs.Position.{back}
 use Rattle.theory.proofs.Raw.{layer_length}
 use Rattle.mark.specs.Walk.{origin_from}
@@ -56,12 +55,12 @@ way_at-w-requires c =
 pub returns-in-Own : goal.returns-in-Own
 returns-in-Own c =
     let o = here_own c.seek-k.ensures.0 _ (sym c.way_at-w.ensures ∙ c.in-Own.is) in
-    ap origin_answer (sym o.0 ∙ found (goal.at.returns-in-Own c).After-seek-k)
+    sym o.0 ∙ found (goal.at.returns-in-Own c).After-seek-k
 
 pub returns-in-Before : goal.returns-in-Before
 returns-in-Before c =
     let o = here_base c.seek-k.ensures.0 (sym c.way_at-w.ensures ∙ c.in-Before.is) in
-    ap origin_answer (sym o ∙ found (goal.at.returns-in-Before c).After-seek-k)
+    sym o ∙ found (goal.at.returns-in-Before c).After-seek-k
 
 pub returns-in-On : goal.returns-in-On
 returns-in-On c =

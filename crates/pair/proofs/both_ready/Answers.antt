@@ -1,7 +1,9 @@
 -- `pair::both_ready` meets its contract: the form check, the keys, then the place of fit of each layer, X before Y.
 -- Assumes nothing.
 use native.Mathlib.Omega.{arith}
-use mathlib.Core.Path.{sym, ◌∙◌}
+use mathlib.Core.Path.{◌≡◌, sym, ◌∙◌}
+use Rattle.std.proofs.Common.{rules}
+use Rattle.std.specs.Prelude.{Err}
 use Rattle.form.proofs.Accepted.{accepted}
 use Rattle.pair.proofs.Stages.{forms, form_refused, keys_refused, mine_misfits, theirs_misfits, both_fit}
 use Rattle.pair.proofs.both_ready.Goals as goal
@@ -9,36 +11,39 @@ use Rattle.pair.proofs.both_ready.Goals as goal
 pub returns-then-not-ascend : goal.returns-then-not-ascend
 returns-then-not-ascend c =
     c.refused.ensures
-    ∙ keys_refused _ _ _ _ _ _ _ (sym c.both_formed.ensures ∙ c.in-Done.is) (sym c.ascend.ensures ∙ c.if-not-ascend.true)
+    ∙ keys_refused _ _ _ _ _ _ _ (sym c.both_formed.ensures ∙ c.in_ok-rows.was)
+    (sym c.ascend.ensures ∙ c.if-not-ascend.true)
 
 pub fit_place-mine-requires : goal.fit_place-mine-requires
-fit_place-mine-requires c = (forms _ _ _ _ _ _ _ (sym c.both_formed.ensures ∙ c.in-Done.is)).0
+fit_place-mine-requires c = (forms _ _ _ _ _ _ _ (sym c.both_formed.ensures ∙ c.in_ok-rows.was)).0
 
 pub returns-then-mine-mx : goal.returns-then-mine-mx
 returns-then-mine-mx c =
     c.refused-then-mine-mx.ensures
-    ∙ mine_misfits _ _ _ _ _ _ _ (sym c.both_formed.ensures ∙ c.in-Done.is)
+    ∙ mine_misfits _ _ _ _ _ _ _ (sym c.both_formed.ensures ∙ c.in_ok-rows.was)
     (sym c.ascend.ensures ∙ c.if-not-ascend.false) _ c.fit_place-mine.ensures c.if-mine-mx.true
 
 pub fit_place-theirs-requires : goal.fit_place-theirs-requires
-fit_place-theirs-requires c = (forms _ _ _ _ _ _ _ (sym c.both_formed.ensures ∙ c.in-Done.is)).1
+fit_place-theirs-requires c = (forms _ _ _ _ _ _ _ (sym c.both_formed.ensures ∙ c.in_ok-rows.was)).1
 
 pub overflow_add-theirs : goal.overflow_add-theirs
 overflow_add-theirs c =
-    let both = forms _ _ _ _ _ _ _ (sym c.both_formed.ensures ∙ c.in-Done.is) in
+    let both = forms _ _ _ _ _ _ _ (sym c.both_formed.ensures ∙ c.in_ok-rows.was) in
     omega (arith, (accepted _ _ _ _ _ both.1).held.entries, c.if-theirs-my.true)
 
 pub returns-then-theirs-my : goal.returns-then-theirs-my
 returns-then-theirs-my c =
     rw c.refused-then-theirs-my.ensures
-    (theirs_misfits _ _ _ _ _ _ _ (sym c.both_formed.ensures ∙ c.in-Done.is)
+    (theirs_misfits _ _ _ _ _ _ _ (sym c.both_formed.ensures ∙ c.in_ok-rows.was)
     (sym c.ascend.ensures ∙ c.if-not-ascend.false) _ c.fit_place-mine.ensures c.if-mine-mx.false _
     c.fit_place-theirs.ensures c.if-theirs-my.true)
 
-pub returns-in-Refused : goal.returns-in-Refused
-returns-in-Refused c = form_refused _ _ _ _ _ _ c.in-Refused.r (sym c.both_formed.ensures ∙ c.in-Refused.is)
+pub returns-in_err-rows : goal.returns-in_err-rows
+returns-in_err-rows c =
+    let e : c.from_residual.result ≡ Err c.in_err-rows.field-0.0 = search rules in
+    e ∙ form_refused _ _ _ _ _ _ _ (sym c.both_formed.ensures ∙ c.in_err-rows.was)
 
-pub returns-else-theirs-my : goal.returns-else-theirs-my
-returns-else-theirs-my c =
-    both_fit _ _ _ _ _ _ _ (sym c.both_formed.ensures ∙ c.in-Done.is) (sym c.ascend.ensures ∙ c.if-not-ascend.false) _
-    c.fit_place-mine.ensures c.if-mine-mx.false _ c.fit_place-theirs.ensures c.if-theirs-my.false
+pub returns : goal.returns
+returns c =
+    both_fit _ _ _ _ _ _ _ (sym c.both_formed.ensures ∙ c.in_ok-rows.was)
+    (sym c.ascend.ensures ∙ c.if-not-ascend.false) _ c.fit_place-mine.ensures c.if-mine-mx.false _ c.fit_place-theirs.ensures c.if-theirs-my.false

@@ -10,23 +10,21 @@ use Rattle.model.specs.Fit.{keys_below}
 use Rattle.model.specs.Read.{keys_after}
 use Rattle.model.specs.Refusals.{shown_key}
 use Rattle.landing.specs.Landing.{aim, landing}
-use Rattle.landing.proofs.Known.{Known, known}
+use Rattle.landing.proofs.Known.{known}
+use Rattle.plan.proofs.Answers.{may_land}
 use Rattle.plan.proofs.Planned.{key_first, add_is}
 use Rattle.plan.proofs.add.Goals as goal
 use Rattle.plan.proofs.add.Goals.{After-below-p, Start}
 
-knows : (c : Start) → let a = c.args in Known a.c a.m a.layer.now a.keys.now
-knows c = known c.requires.0
-
 pub bounds-row-0 : goal.bounds-row-0
-bounds-row-0 c = omega (arith, c.requires.1, (knows (goal.at.bounds-row-0 c).Start).acc.held.some)
+bounds-row-0 c = omega (arith, c.requires.1, (known c.requires.0).acc.held.some)
 
 pub landing-i-requires : goal.landing-i-requires
-landing-i-requires c = let N = knows (goal.at.landing-i-requires c).Start in (N.acc.held, N.good.fit.sorted)
+landing-i-requires c = may_land c.requires.0
 
 pub eight-requires : goal.eight-requires
 eight-requires c =
-    omega (arith, c.requires.1, (knows (goal.at.eight-requires c).Start).acc.held.columns)
+    omega (arith, c.requires.1, (known c.requires.0).acc.held.columns)
 
 -- the position, by the row's key
 ranks : (c : After-below-p) → let a = c.args in

@@ -1,41 +1,41 @@
 -- `position::shift` meets its contract: refused past n, and as the check refuses, else the shift is `shift_at`'s.
 -- Assumes nothing.
 use native.Mathlib.Omega.{arith}
-use mathlib.Core.Path.{sym, ap, ◌∙◌}
-use Rattle.words.specs.declared.Shifted.TheVariants.{By}
+use mathlib.Core.Path.{◌≡◌, sym, ap, ◌∙◌}
+use Rattle.std.proofs.Common.{rules}
+use Rattle.std.specs.Prelude.{Ok, Err}
 use Rattle.form.proofs.Accepted.{Accepted, accepted}
 use Rattle.tally.proofs.Signed.{read_back}
 use Rattle.tally.proofs.Small.{shift_small}
 use Rattle.position.proofs.Answers.{shift_past, shift_within}
 use Rattle.position.proofs.shift.Goals as goal
-use Rattle.position.proofs.shift.Goals.{In-Done}
+use Rattle.position.proofs.shift.Goals.{In_ok-check_layer}
 
 -- what the check gives where it is done
-known : (c : In-Done) → let a = c.args in
-    Accepted a.c a.n a.m a.layer.now c.in-Done.field-0
-known c = accepted _ _ _ _ _ (sym c.check_layer-f.ensures ∙ c.in-Done.is)
+known : (c : In_ok-check_layer) → let a = c.args in
+    Accepted a.c a.n a.m a.layer.now c.in_ok-check_layer.field-0
+known c = accepted _ _ _ _ _ (sym c.check_layer.ensures ∙ c.in_ok-check_layer.was)
 
 pub returns-then-n-s : goal.returns-then-n-s
-returns-then-n-s c = shift_past _ _ _ _ _ (omega (arith, c.if-n-s.true))
+returns-then-n-s c = c.refused.ensures ∙ shift_past _ _ _ _ _ (omega (arith, c.if-n-s.true))
 
 pub shift_at-requires : goal.shift_at-requires
-shift_at-requires c = (known (goal.at.shift_at-requires c).In-Done).held
+shift_at-requires c = (known (goal.at.shift_at-requires c).In_ok-check_layer).held
 
-pub returns-in-Done : goal.returns-in-Done
-returns-in-Done c =
+pub returns : goal.returns
+returns c =
     let a = c.args in
     rw (
       shift_within a.c a.n a.m a.layer.now a.s (omega (arith, c.if-n-s.false)),
-      ← c.check_layer-f.ensures,
-      c.in-Done.is,
+      ← c.check_layer.ensures,
+      c.in_ok-check_layer.was,
     )
-    (ap By (read_back _ _ c.shift_at.ensures (shift_small _ _ _ _ (known (goal.at.returns-in-Done c).In-Done).held)))
+    (ap Ok (read_back _ _ c.shift_at.ensures (shift_small _ _ _ _ (known (goal.at.returns c).In_ok-check_layer).held)))
 
-pub returns-in-Refused : goal.returns-in-Refused
-returns-in-Refused c =
+pub returns-in_err-check_layer : goal.returns-in_err-check_layer
+returns-in_err-check_layer c =
     let a = c.args in
-    rw (
-      shift_within a.c a.n a.m a.layer.now a.s (omega (arith, c.if-n-s.false)),
-      ← c.check_layer-f.ensures,
-      c.in-Refused.is,
-    )
+    let e : c.from_residual.result ≡ Err c.in_err-check_layer.field-0.0 = search rules in
+    e
+    ∙ sym (shift_within a.c a.n a.m a.layer.now a.s (omega (arith, c.if-n-s.false))
+    ∙ rw (← c.check_layer.ensures, c.in_err-check_layer.was))

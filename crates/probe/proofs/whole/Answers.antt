@@ -6,7 +6,8 @@ use mathlib.Core.Bool.{true, false}
 use mathlib.Core.List.{List}
 use Prim.Native.Nat.{ℕ, ◌≤◌}
 use lib.ListN.{length}
-use Rattle.words.specs.declared.Answer.TheVariants.{Done}
+use Rattle.std.proofs.Common.{rules}
+use Rattle.std.specs.Prelude.{Ok, Err}
 use Rattle.model.specs.Form.{args_ok}
 use Rattle.model.specs.Calls.{form_answer}
 use Rattle.form.proofs.Formed as form
@@ -108,15 +109,19 @@ judged c h =
     c.scan_file.ensures
     ∙ form_is _ _ _ _ c.trailer_of-t.ensures.1 c.trailer_of-t.ensures.2 c.trailer_of-t.ensures.3 h
 
-pub returns-in-Refused : goal.returns-in-Refused
-returns-in-Refused c =
-    let p = goal.at.returns-in-Refused c in
+pub returns-in_err-judge : goal.returns-in_err-judge
+returns-in_err-judge c =
+    let p = goal.at.returns-in_err-judge c in
     let h = fits p.Else-back-reach in
-    form_refused _ c.if-len-lt32.false (kept-limits p.Else-not-args_ok) h _ (sym (judged p.After-judge h) ∙ c.in-Refused.is)
+    let e : c.from_residual.result ≡ Err c.in_err-judge.field-0.0 = search rules in
+    e
+    ∙ form_refused _ c.if-len-lt32.false (kept-limits p.Else-not-args_ok) h _
+    (sym (judged p.After-judge h) ∙ c.in_err-judge.was)
 
-pub returns-in-Done : goal.returns-in-Done
-returns-in-Done c =
-    let p = goal.at.returns-in-Done c in
+pub returns : goal.returns
+returns c =
+    let p = goal.at.returns c in
     let h = fits p.Else-back-reach in
-    ap Done c.trailer_of-t.ensures.1
-    ∙ form_done _ c.if-len-lt32.false (kept-limits p.Else-not-args_ok) h _ (sym (judged p.After-judge h) ∙ c.in-Done.is)
+    ap Ok c.trailer_of-t.ensures.1
+    ∙ form_done _ c.if-len-lt32.false (kept-limits p.Else-not-args_ok) h _
+    (sym (judged p.After-judge h) ∙ c.in_ok-judge.was)

@@ -6,7 +6,8 @@ use mathlib.Core.Bool.{true, ◌&&◌}
 use lib.ListN.{length, take}
 use lib.Seq.{length-take-le}
 use lib.Dec.{leb}
-use Rattle.words.specs.declared.Answer.TheVariants.{Refused}
+use Rattle.std.proofs.Common.{rules}
+use Rattle.std.specs.Prelude.{Err}
 use Rattle.plan.proofs.Answers.{refuses}
 use Rattle.renumber.proofs.Answers.{some_column, bad_args_lem, bad_table, in_slice, refused_before, no_row, asked, ends}
 use Rattle.renumber.proofs.renumber_apart.Goals as goal
@@ -51,23 +52,25 @@ returns-then-rows-r c =
     let a = c.args in
     refuses a.c a.m a.layer.now _ _ c.refused-then-rows-r.result _ c.refused-then-rows-r.ensures
     (no_row a.c a.n a.w a.m a.layer.now a.table.now a.r a.g (some (goal.at.returns-then-rows-r c).Else-not-args_ok) (whole (goal.at.returns-then-rows-r c).Else-not-lent_whole)
-    (take a.n a.table.now) refl _ (sym c.ready.ensures ∙ c.in-Done.is) c.if-rows-r.true)
+    (take a.n a.table.now) refl _ (sym c.ready.ensures ∙ c.in_ok-rows.was) c.if-rows-r.true)
 
 pub reseat-requires : goal.reseat-requires
 reseat-requires c =
     let a = c.args in
     asked a.c a.n a.w a.m a.layer.now a.table.now a.r a.g (some (goal.at.reseat-requires c).Else-not-args_ok) (whole (goal.at.reseat-requires c).Else-not-lent_whole)
-    (take a.n a.table.now) refl _ (sym c.ready.ensures ∙ c.in-Done.is) c.if-rows-r.false
+    (take a.n a.table.now) refl _ (sym c.ready.ensures ∙ c.in_ok-rows.was) c.if-rows-r.false
 
-pub returns-in-Refused : goal.returns-in-Refused
-returns-in-Refused c =
+pub returns-in_err-rows : goal.returns-in_err-rows
+returns-in_err-rows c =
     let a = c.args in
-    refuses a.c a.m a.layer.now _ _ (Refused c.in-Refused.x) _ refl
-    (refused_before a.c a.n a.w a.m a.layer.now a.table.now a.r a.g (some (goal.at.returns-in-Refused c).Else-not-args_ok) (whole (goal.at.returns-in-Refused c).Else-not-lent_whole)
-    (take a.n a.table.now) refl _ (sym c.ready.ensures ∙ c.in-Refused.is))
+    let e : c.from_residual.result ≡ Err c.in_err-rows.field-0.0 = search rules in
+    refuses a.c a.m a.layer.now _ _ c.from_residual.result _ e
+    (refused_before a.c a.n a.w a.m a.layer.now a.table.now a.r a.g (some (goal.at.returns-in_err-rows c).Else-not-args_ok)
+    (whole (goal.at.returns-in_err-rows c).Else-not-lent_whole)
+    (take a.n a.table.now) refl _ (sym c.ready.ensures ∙ c.in_err-rows.was))
 
-pub returns-else-rows-r : goal.returns-else-rows-r
-returns-else-rows-r c =
+pub returns : goal.returns
+returns c =
     let a = c.args in
-    ends a.c a.n a.w a.m a.layer.now a.table.now a.r a.g (some (goal.at.returns-else-rows-r c).Else-not-args_ok) (whole (goal.at.returns-else-rows-r c).Else-not-lent_whole)
-    (take a.n a.table.now) refl _ (sym c.ready.ensures ∙ c.in-Done.is) c.if-rows-r.false _ _ c.reseat.ensures
+    ends a.c a.n a.w a.m a.layer.now a.table.now a.r a.g (some (goal.at.returns c).Else-not-args_ok) (whole (goal.at.returns c).Else-not-lent_whole)
+    (take a.n a.table.now) refl _ (sym c.ready.ensures ∙ c.in_ok-rows.was) c.if-rows-r.false _ _ c.reseat.ensures

@@ -3,8 +3,8 @@
 
 use Rattle.reply.proofs.entered.Goals as goal
 
-pub returns-in-Done : goal.returns-in-Done
-returns-in-Done c = rw c.in-Done.is
+pub returns-in-Ok : goal.returns-in-Ok
+returns-in-Ok c = rw c.in-Ok.is
 
-pub returns-in-Refused : goal.returns-in-Refused
-returns-in-Refused c = rw c.in-Refused.is
+pub returns-in-Err : goal.returns-in-Err
+returns-in-Err c = rw c.in-Err.is

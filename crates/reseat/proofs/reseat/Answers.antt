@@ -63,10 +63,10 @@ turned c =
       below = ap (ltb c.args.g) (own_key c.requires c.args.g row is);
     }
 
-pub enter_in_turn-requires : goal.enter_in_turn-requires
-enter_in_turn-requires c =
-    in_layer c.requires c.args.g (turned (goal.at.enter_in_turn-requires c).Else-into)
+pub enter-requires : goal.enter-requires
+enter-requires c =
+    in_layer c.requires c.args.g (turned (goal.at.enter-requires c).Else-into) c.in_key_order-x.ensures
 
 pub returns : goal.returns
 returns c =
-    turned_ends c.requires c.args.g (turned (goal.at.returns c).Else-into) _ _ c.enter_in_turn.ensures
+    turned_ends c.requires c.args.g (turned (goal.at.returns c).Else-into) c.in_key_order-x.ensures _ _ c.enter.ensures

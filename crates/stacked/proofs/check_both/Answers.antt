@@ -4,6 +4,8 @@ use native.Mathlib.Omega.{arith}
 use mathlib.Core.Path.{◌≡◌, sym, ◌∙◌}
 use mathlib.Core.Bool.{true, ◌&&◌}
 use lib.ListN.{length}
+use Rattle.std.proofs.Common.{rules}
+use Rattle.std.specs.Prelude.{Err}
 use Rattle.model.specs.Form.{args_ok}
 use Rattle.form.proofs.Accepted.{accepted}
 use Rattle.stacked.proofs.Answers.{args_refused, lower_form_refused, upper_form_refused, upper_place, forms, fits_answer_lem}
@@ -27,36 +29,38 @@ pub overflow_add-y : goal.overflow_add-y
 overflow_add-y c =
     let a = c.args in
     let ok = passed (goal.at.overflow_add-y c).Else-not-args_ok in
-    let low = sym c.check.ensures ∙ c.in-Done.is in
-    let up = sym c.check-in-Done.ensures ∙ c.in-Refused-check.is in
-    omega (arith, upper_place a.c a.keys.now a.mr a.r.now a.mw a.w.now ok c.in-Done.rows low c.in-Refused-check.y up)
+    let low = sym c.check.ensures ∙ c.in_ok-rows.was in
+    let up = sym c.check-2.ensures ∙ c.in-Err.is in
+    omega (arith, upper_place a.c a.keys.now a.mr a.r.now a.mw a.w.now ok c.in_ok-rows.rows low c.in-Err.y up)
 
 pub fit_both-requires : goal.fit_both-requires
 fit_both-requires c =
     let ok = passed (goal.at.fit_both-requires c).Else-not-args_ok in
-    let low = sym c.check.ensures ∙ c.in-Done.is in (
-      forms _ _ _ _ _ _ ok _ low _ (sym c.check-in-Done.ensures ∙ c.in-Done-check.is),
+    let low = sym c.check.ensures ∙ c.in_ok-rows.was in (
+      forms _ _ _ _ _ _ ok _ low _ (sym c.check-2.ensures ∙ c.in-Ok.is),
       (accepted _ _ _ _ _ low).shown,
       c.requires,
     )
 
-pub returns-in-Refused : goal.returns-in-Refused
-returns-in-Refused c = (
-  lower_form_refused _ _ _ _ _ _ (passed (goal.at.returns-in-Refused c).Else-not-args_ok) _
-      (sym c.check.ensures ∙ c.in-Refused.is),
-  tt,
-)
+pub returns-in_err-rows : goal.returns-in_err-rows
+returns-in_err-rows c =
+    let e : c.from_residual.result ≡ Err c.in_err-rows.field-0.0 = search rules in
+    rw e (
+      lower_form_refused _ _ _ _ _ _ (passed (goal.at.returns-in_err-rows c).Else-not-args_ok) _
+          (sym c.check.ensures ∙ c.in_err-rows.was),
+      tt,
+    )
 
-pub returns-in-Refused-check : goal.returns-in-Refused-check
-returns-in-Refused-check c =
-    let ok = passed (goal.at.returns-in-Refused-check c).Else-not-args_ok in
-    let low = sym c.check.ensures ∙ c.in-Done.is in
-    let up = sym c.check-in-Done.ensures ∙ c.in-Refused-check.is in
-    rw c.refused-in-Refused-check.ensures (upper_form_refused _ _ _ _ _ _ ok _ low _ up, tt)
+pub returns-in-Err : goal.returns-in-Err
+returns-in-Err c =
+    let ok = passed (goal.at.returns-in-Err c).Else-not-args_ok in
+    let low = sym c.check.ensures ∙ c.in_ok-rows.was in
+    let up = sym c.check-2.ensures ∙ c.in-Err.is in
+    rw c.refused-in-Err.ensures (upper_form_refused _ _ _ _ _ _ ok _ low _ up, tt)
 
-pub returns-in-Done-check : goal.returns-in-Done-check
-returns-in-Done-check c =
-    let ok = passed (goal.at.returns-in-Done-check c).Else-not-args_ok in
-    let low = sym c.check.ensures ∙ c.in-Done.is in
-    let up = sym c.check-in-Done.ensures ∙ c.in-Done-check.is in
+pub returns-in-Ok : goal.returns-in-Ok
+returns-in-Ok c =
+    let ok = passed (goal.at.returns-in-Ok c).Else-not-args_ok in
+    let low = sym c.check.ensures ∙ c.in_ok-rows.was in
+    let up = sym c.check-2.ensures ∙ c.in-Ok.is in
     (c.fit_both.ensures.0 ∙ fits_answer_lem _ _ _ _ _ _ ok _ low _ up, c.fit_both.ensures.1)

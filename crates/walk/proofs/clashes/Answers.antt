@@ -1,15 +1,12 @@
 -- `walk::clashes` meets its contract: the entry at the cursor is the first of those from it on.
 -- Assumes nothing.
 use mathlib.Core.Path.{sym, ap, ◌∙◌}
-use mathlib.Core.Bool.{not}
-use Prim.Native.Nat.{ℕ}
-use lib.Dec.{eqb}
 use Rattle.model.specs.Layer.{Layer}
 use Rattle.model.specs.Raw.{entry_at}
 use Rattle.model.specs.Conflict.{clash, met}
 use Rattle.head.specs.declared.Head.{Head}
 use Rattle.head.specs.Head.{seen}
-use Rattle.head.proofs.Heads.{clash_head, met_number}
+use Rattle.head.proofs.Heads.{clash_head}
 use Rattle.entry.proofs.Looks.{left_end}
 use Rattle.walk.specs.Walk.{rule_ahead}
 use Rattle.walk.proofs.Marks.{entry_here, entry_room}
@@ -22,8 +19,8 @@ head_at-d-requires c =
 pub returns-then-k-m : goal.returns-then-k-m
 returns-then-k-m c =
     let a = c.args in
-    ap (λ (n : ℕ). not (eqb n 0)) c.rule_met.ensures
-    ∙ (met_number (clash (seen a.e) (seen c.head_at-d.result))
+    c.is_some.ensures
+    ∙ (ap met c.rule_met.ensures
     ∙ (ap (λ (h : Head). met (clash (seen a.e) (seen h))) c.head_at-d.ensures
     ∙ (ap met (clash_head (seen a.e) (entry_at a.c a.k.at a.layer.now))
     ∙ sym (ap (λ (L : Layer). met (rule_ahead (seen a.e) L))

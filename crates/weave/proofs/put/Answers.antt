@@ -12,6 +12,7 @@ use Rattle.model.specs.Layer.{Layer}
 use Rattle.words.specs.declared.Entry.{Entry}
 use Rattle.model.specs.Raw.{entry_at, layer_of, flat}
 use Rattle.scan.proofs.Laws.{vals_length}
+use Rattle.std.specs.Prelude.{Option, Some, None}
 use Rattle.turn.specs.declared.Place.{Place}
 use Rattle.turn.specs.declared.Puts.{Puts}
 use Rattle.turn.specs.declared.Puts.TheVariants.{AsItIs, UpperAt, Changed, Fused}
@@ -24,21 +25,22 @@ use Rattle.weave.proofs.Putting.{low, lower_off, upper_off, offset, row, lower_r
 use Rattle.weave.proofs.put.Goals as goal
 
 -- the match tells which entry is left
-taken : {write : Bool} {c mr : ℕ} {r : List ℕ} {mw : ℕ} {w : List ℕ} {k : Place} {puts p : Puts} {len : ℕ}
-    → Leaves write c mr r mw w k puts len → puts ≡ p → Leaves write c mr r mw w k p len
-taken {write} {c} {mr} {r} {mw} {w} {k} {puts} {p} {len} g e =
-    subst (λ (q : Puts). Leaves write c mr r mw w k q len) e g
+taken : {write : Bool} {c mr : ℕ} {r : List ℕ} {mw : ℕ} {w : List ℕ} {k : Place} {puts : Option Puts} {q p : Puts} {len : ℕ}
+    → Leaves write c mr r mw w k puts len → puts ≡ Some q → q ≡ p → Leaves write c mr r mw w k (Some p) len
+taken {write} {c} {mr} {r} {mw} {w} {k} {puts} {q} {p} {len} g e f =
+    subst (λ (x : Option Puts). Leaves write c mr r mw w k x len) (e ∙ ap Some f) g
 
 -- what is written is what the turn leaves
-shows : (write : Bool) (c : ℕ) (X Y : Layer) (puts p : Puts) (ys old : List ℕ) (o : ℕ) (new : List ℕ) → write ≡ true
-    → puts ≡ p → flat c (left p X Y) ≡ ys → Put ys old o new → PutIf write (flat c (left puts X Y)) old o new
-shows write c X Y puts p ys old o new h e n q =
+shows : (write : Bool) (c : ℕ) (X Y : Layer) (puts : Option Puts) (p : Puts) (ys old : List ℕ) (o : ℕ) (new : List ℕ)
+    → write ≡ true → {q : Puts} → puts ≡ Some q → q ≡ p → flat c (left (Some p) X Y) ≡ ys → Put ys old o new
+    → PutIf write (flat c (left puts X Y)) old o new
+shows write c X Y puts p ys old o new h e f n q =
     put_wrote write (flat c (left puts X Y)) old o new h
-    (subst (λ (zs : List ℕ). Put zs old o new) (sym (ap (λ (x : Puts). flat c (left x X Y)) e ∙ n)) q)
+    (subst (λ (zs : List ℕ). Put zs old o new) (sym (ap (λ (x : Option Puts). flat c (left x X Y)) (e ∙ ap Some f) ∙ n)) q)
 
 -- the lower layer's added row is written, and its values are lent
 module _ {write : Bool} {c mr : ℕ} {r : List ℕ} {mw : ℕ} {w : List ℕ} {k : Place} (out mid : List ℕ)
-    (g : Leaves write c mr r mw w k Changed (length out)) (h : write ≡ true) where
+    (g : Leaves write c mr r mw w k (Some Changed) (length out)) (h : write ≡ true) where
   abbrev x : Entry
   x = entry_at c (k.i * (c + 2)) r
 
@@ -89,11 +91,11 @@ overflow_mul-o c = omega (arith, offset c.requires)
 
 -- the lower layer's entry as it is
 pub pos_at-requires : goal.pos_at-requires
-pos_at-requires c = lower_room _ _ _ _ _ _ _ _ (taken c.requires c.in-AsItIs.is)
+pos_at-requires c = lower_room _ _ _ _ _ _ _ _ (taken c.requires c.in-Some-AsItIs.is (rw c.in-Some-AsItIs.is at c.in-Some-AsItIs.field-0-is))
 
 pub put_entry-requires : goal.put_entry-requires
 put_entry-requires c =
-    let g = taken c.requires c.in-AsItIs.is in
+    let g = taken c.requires c.in-Some-AsItIs.is (rw c.in-Some-AsItIs.is at c.in-Some-AsItIs.field-0-is) in
     (lower_room _ _ _ _ _ _ _ _ g, (lower_put _ _ _ _ _ _ _ _ g).space c.if-write.true, (low g).held.some)
 
 pub returns-then-write : goal.returns-then-write
@@ -101,57 +103,59 @@ returns-then-write c =
     let a = c.args in
     let x = entry_at a.c (a.k.i * (a.c + 2)) a.r.now in
     let f = c.put_entry in
-    shows a.write a.c _ _ a.puts AsItIs _ a.out.now (a.k.m * (a.c + 2)) f.new.out c.if-write.true c.in-AsItIs.is
-    (lower_put _ _ _ _ _ _ _ _ (taken c.requires c.in-AsItIs.is)).numbers
+    shows a.write a.c _ _ a.puts AsItIs _ a.out.now (a.k.m * (a.c + 2)) f.new.out c.if-write.true c.in-Some-AsItIs.is (rw c.in-Some-AsItIs.is at c.in-Some-AsItIs.field-0-is)
+    (lower_put _ _ _ _ _ _ _ _ (taken c.requires c.in-Some-AsItIs.is (rw c.in-Some-AsItIs.is at c.in-Some-AsItIs.field-0-is))).numbers
     (subst (λ (n : ℕ). Put (n ∷ x.kind ∷ x.vals) a.out.now (a.k.m * (a.c + 2)) f.new.out) c.pos_at.ensures f.ensures)
 
 -- the upper layer's at a position
 pub put_entry-requires-then-write-2 : goal.put_entry-requires-then-write-2
 put_entry-requires-then-write-2 c =
-    let g = taken c.requires c.in-UpperAt.is in
+    let g = taken c.requires c.in-Some-UpperAt.is (rw c.in-Some-UpperAt.is at c.in-Some-UpperAt.field-0-is) in
     (upper_room _ _ _ _ _ _ _ _ _ g, (upper_put _ _ _ _ _ _ _ _ _ g).space c.if-write-2.true, (low g).held.some)
 
 pub returns-then-write-2 : goal.returns-then-write-2
 returns-then-write-2 c =
     let a = c.args in
     let f = c.put_entry-then-write-2 in
-    shows a.write a.c _ _ a.puts (UpperAt c.in-UpperAt.p) _ a.out.now (a.k.m * (a.c + 2)) f.new.out c.if-write-2.true
-    c.in-UpperAt.is (upper_put _ _ _ _ _ _ _ _ _ (taken c.requires c.in-UpperAt.is)).numbers f.ensures
+    shows a.write a.c _ _ a.puts (UpperAt c.in-Some-UpperAt.p) _ a.out.now (a.k.m * (a.c + 2)) f.new.out c.if-write-2.true
+    c.in-Some-UpperAt.is (rw c.in-Some-UpperAt.is at c.in-Some-UpperAt.field-0-is)
+    (upper_put _ _ _ _ _ _ _ _ _ (taken c.requires c.in-Some-UpperAt.is (rw c.in-Some-UpperAt.is at c.in-Some-UpperAt.field-0-is))).numbers
+    f.ensures
 
 -- the lower layer's added row with the upper's changes
 pub pos_at-requires-then-write-3 : goal.pos_at-requires-then-write-3
-pos_at-requires-then-write-3 c = (both_room _ _ _ _ _ _ _ _ (taken c.requires c.in-Changed.is)).0
+pos_at-requires-then-write-3 c = (both_room _ _ _ _ _ _ _ _ (taken c.requires c.in-Some-Changed.is (rw c.in-Some-Changed.is at c.in-Some-Changed.field-0-is))).0
 
 pub put_entry-requires-then-write-3 : goal.put_entry-requires-then-write-3
 put_entry-requires-then-write-3 c =
-    let g = taken c.requires c.in-Changed.is in
+    let g = taken c.requires c.in-Some-Changed.is (rw c.in-Some-Changed.is at c.in-Some-Changed.field-0-is) in
     ((both_room _ _ _ _ _ _ _ _ g).0, (changed_put _ _ _ _ _ _ _ _ g).space c.if-write-3.true, (low g).held.some)
 
 pub pos_at-requires-then-write-3-2 : goal.pos_at-requires-then-write-3-2
-pos_at-requires-then-write-3-2 c = (both_room _ _ _ _ _ _ _ _ (taken c.requires c.in-Changed.is)).1
+pos_at-requires-then-write-3-2 c = (both_room _ _ _ _ _ _ _ _ (taken c.requires c.in-Some-Changed.is (rw c.in-Some-Changed.is at c.in-Some-Changed.field-0-is))).1
 
 pub patch-requires : goal.patch-requires
 patch-requires c =
-    row_lent c.args.out.now c.put_entry-then-write-3.new.out (taken c.requires c.in-Changed.is) c.if-write-3.true _
+    row_lent c.args.out.now c.put_entry-then-write-3.new.out (taken c.requires c.in-Some-Changed.is (rw c.in-Some-Changed.is at c.in-Some-Changed.field-0-is)) c.if-write-3.true _
     c.pos_at-then-write-3.ensures c.put_entry-then-write-3.ensures
 
 pub returns-then-write-3 : goal.returns-then-write-3
 returns-then-write-3 c =
     let a = c.args in
-    let g = taken c.requires c.in-Changed.is in
+    let g = taken c.requires c.in-Some-Changed.is (rw c.in-Some-Changed.is at c.in-Some-Changed.field-0-is) in
     let f = c.put_entry-then-write-3 in
-    shows a.write a.c _ _ a.puts Changed _ a.out.now (a.k.m * (a.c + 2)) _ c.if-write-3.true c.in-Changed.is
+    shows a.write a.c _ _ a.puts Changed _ a.out.now (a.k.m * (a.c + 2)) _ c.if-write-3.true c.in-Some-Changed.is (rw c.in-Some-Changed.is at c.in-Some-Changed.field-0-is)
     (changed_put _ _ _ _ _ _ _ _ g).numbers
     (changes a.out.now f.new.out g c.if-write-3.true _ c.pos_at-then-write-3.ensures f.ensures _ c.patch.new.row
     c.pos_at-then-write-3-2.ensures c.patch.ensures)
 
 -- the upper layer's change over the lower's
 pub pos_at-requires-then-write-4 : goal.pos_at-requires-then-write-4
-pos_at-requires-then-write-4 c = (fused_room _ _ _ _ _ _ _ _ (taken c.requires c.in-Fused.is)).0
+pos_at-requires-then-write-4 c = (fused_room _ _ _ _ _ _ _ _ (taken c.requires c.in-Some-Fused.is (rw c.in-Some-Fused.is at c.in-Some-Fused.field-0-is))).0
 
 pub put_entry-requires-then-write-4 : goal.put_entry-requires-then-write-4
 put_entry-requires-then-write-4 c =
-    let g = taken c.requires c.in-Fused.is in
+    let g = taken c.requires c.in-Some-Fused.is (rw c.in-Some-Fused.is at c.in-Some-Fused.field-0-is) in
     ((fused_room _ _ _ _ _ _ _ _ g).1, (fused_put _ _ _ _ _ _ _ _ g).space c.if-write-4.true, (low g).held.some)
 
 pub returns-then-write-4 : goal.returns-then-write-4
@@ -159,19 +163,19 @@ returns-then-write-4 c =
     let a = c.args in
     let z = entry_at a.c (a.k.j * (a.c + 2)) a.w.now in
     let f = c.put_entry-then-write-4 in
-    shows a.write a.c _ _ a.puts Fused _ a.out.now (a.k.m * (a.c + 2)) f.new.out c.if-write-4.true c.in-Fused.is
-    (fused_put _ _ _ _ _ _ _ _ (taken c.requires c.in-Fused.is)).numbers
+    shows a.write a.c _ _ a.puts Fused _ a.out.now (a.k.m * (a.c + 2)) f.new.out c.if-write-4.true c.in-Some-Fused.is (rw c.in-Some-Fused.is at c.in-Some-Fused.field-0-is)
+    (fused_put _ _ _ _ _ _ _ _ (taken c.requires c.in-Some-Fused.is (rw c.in-Some-Fused.is at c.in-Some-Fused.field-0-is))).numbers
     (subst (λ (n : ℕ). Put (n ∷ z.kind ∷ z.vals) a.out.now (a.k.m * (a.c + 2)) f.new.out) c.pos_at-then-write-4.ensures
     f.ensures)
 
-pub returns-in-Nothing : goal.returns-in-Nothing
-returns-in-Nothing c =
+pub returns-in-None : goal.returns-in-None
+returns-in-None c =
     let a = c.args in
     let R = drop a.k.i (layer_of a.c a.mr a.r.now) in
     let W = drop a.k.j (layer_of a.c a.mw a.w.now) in
-    let none : flat a.c (left a.puts R W) ≡ [] = ap (λ (x : Puts). flat a.c (left x R W)) c.in-Nothing.is ∙ flat_none a.c in
+    let empty : flat a.c (left a.puts R W) ≡ [] = ap (λ (x : Option Puts). flat a.c (left x R W)) c.in-None.is ∙ flat_none a.c in
     record {
-      wrote = λ _. subst (λ (zs : List ℕ). Put zs a.out.now (a.k.m * (a.c + 2)) a.out.now) (sym none)
+      wrote = λ _. subst (λ (zs : List ℕ). Put zs a.out.now (a.k.m * (a.c + 2)) a.out.now) (sym empty)
           (put_none a.out.now (a.k.m * (a.c + 2)));
       kept = λ _. refl;
     }
