@@ -121,8 +121,8 @@ module _ (c m : ℕ) (raw K : List ℕ) (row : Row) where
           free : shown_key (key row) (keys_after K L) ≡ false
           free = sym is ∙ g
 
-          pub add_no_room : {n : ℕ} → n ≡ room c (length raw) → n < m + 1
-              → (s : Answer) → s ≡ Err (refusal NoRoom 0) → Left s raw
+          pub add_no_room : {n : ℕ} → n ≡ room c (length raw) → n < m + 1 → (s : Answer)
+              → s ≡ Err (refusal NoRoom 0) → Left s raw
           add_no_room e l =
               refused (refusal NoRoom 0)
               (rw (free, lt-ltb (room c (length raw)) (length added) (omega (arith, counted.1, counted.2))))

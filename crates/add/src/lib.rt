@@ -5,6 +5,7 @@ ghost use Rattle.std.specs.Prelude.{◌≡◌};
 ghost use Rattle.model.specs.Calls.{add_answer, add_slice};
 
 use enter::Move;
+use entry::Stored;
 use words::{Cause, MOST_ROWS, Refusal};
 
 // Add a row: an add entry at its position, in key order among the adds there.
@@ -22,7 +23,12 @@ pub fn add(
         return words::refused(Cause::BadArguments, 0);
     }
     let rows = fit::ready(c, m, layer, keys)?;
-    let p = plan::add(c, m, layer, keys, row);
+    let stored = Stored {
+        c,
+        m,
+        numbers: layer,
+    };
+    let p = plan::add(&stored, keys, row);
     if p.shown {
         return words::refused(Cause::KeyShown, 0);
     }

@@ -4,6 +4,7 @@
 ghost use Rattle.std.specs.Prelude.{◌≡◌};
 ghost use Rattle.model.specs.Calls.{back_answer};
 
+use entry::Stored;
 use words::{Cause, Origin, Refusal};
 
 // Row number r is the base row or the added entry that stands there.
@@ -14,5 +15,10 @@ pub fn back(c: usize, n: usize, m: usize, layer: &[u64], r: usize) -> Result<Ori
     if rows <= r {
         return words::refused(Cause::NoSuchRow, 0);
     }
-    Ok(mark::origin_of(c, n, m, layer, r))
+    let stored = Stored {
+        c,
+        m,
+        numbers: layer,
+    };
+    Ok(mark::origin_of(&stored, n, r))
 }

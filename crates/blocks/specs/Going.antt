@@ -1,9 +1,9 @@
 -- What one read leaves: how it went, and the bytes that came, taken.
 use Rattle.std.specs.Prelude.{◌≡◌, ◌≤◌, Option, Some, None, IfSome, List, ℕ, zero, suc, take}
 use Rattle.std.specs.Option.{unwrap_or}
-use Rattle.intake.specs.declared.Feed.{Feed}
-use Rattle.intake.specs.Reading.{Reading, Took}
-use Rattle.feed.specs.Input.{hushed, anew}
+use Rattle.intake.specs.declared.Reader.{Reader}
+use Rattle.intake.specs.Reader.{Took}
+use Rattle.feed.specs.Input.{anew}
 use Rattle.blocks.specs.declared.Went.{Went}
 use Rattle.blocks.specs.declared.Went.TheVariants.{On, Over, Failed}
 
@@ -22,6 +22,6 @@ abbrev pub came : Option ℕ → ℕ
 came got = unwrap_or got 0
 
 -- what is owed for a block: how its read went, and all of the bytes that came taken behind those before
-pub record Block (got : Option ℕ) (block : List ℕ) (w : Went) (f : Feed) (i : Reading) (f' : Feed) (i' : Reading) : Type 0 where
+pub record Block (got : Option ℕ) (block : List ℕ) (w : Went) (s t : Reader) : Type 0 where
   pub went : w ≡ went_by got
-  pub took : Took (take (came got) block) (anew f) (hushed i) f' i'
+  pub took : Took (take (came got) block) (anew s) t

@@ -1,14 +1,14 @@
 // The input in blocks: the bytes of one taken as its read answered, and the end of the input with the table behind it.
 #![tactic(auto)]
 
-ghost use Rattle.std.specs.Prelude.{◌≡◌, take};
+ghost use Rattle.std.specs.Prelude.{◌≡◌};
 ghost use Rattle.text.specs.Text.{Wrote};
-ghost use Rattle.intake.specs.Reading.{reading_of};
+ghost use Rattle.intake.specs.Reader.{reading_of, InFront};
 ghost use Rattle.feed.specs.Input.{hushed, Ready};
 ghost use Rattle.console.specs.Told.{closing};
 ghost use Rattle.blocks.specs.Going.{Moved, went_by, Block};
 
-use intake::Feed;
+use intake::Reader;
 
 // How a read went: bytes came, the input ended, or it failed.
 #[derive(Clone, Copy)]
@@ -16,13 +16,6 @@ pub enum Went {
     On,
     Over,
     Failed,
-}
-
-// How a read went, and where the reading stands behind its bytes.
-#[derive(Clone, Copy)]
-pub struct Taken {
-    pub went: Went,
-    pub fed: Feed,
 }
 
 // How a read went that answered so.
@@ -37,44 +30,27 @@ fn how(got: Option<usize>) -> Went
 }
 
 // Takes all of the bytes of a block that a read filled, of which so many came, or none where it failed; what they say
-// stands in the text.
-pub fn take_some(
-    got: Option<usize>,
-    block: &[u8; 4096],
-    fed: Feed,
-    table: &mut [u64; 1536],
-    layer: &mut [u64; 2560],
-    line: &mut [u8; 65],
-    out: &mut [u8; 204800],
-) -> Taken
-    requires { Moved 4096 got × Ready 4096 fed }
-    ensures { Block got block.now result.went fed
-        (reading_of fed table.old layer.old line.old out.old)
-        result.fed (reading_of result.fed table.new layer.new line.new out.new)
-        × Wrote (take result.fed.at out.new) out.old 0 result.fed.at out.new }
+// stands in the text. Answers how the read went.
+pub fn take_some(reader: &mut Reader, got: Option<usize>, block: &[u8; 4096]) -> Went
+    requires { Moved 4096 got × Ready 4096 reader.old }
+    ensures { Block got block.now result reader.old reader.new × InFront reader.old.out reader.new }
 {
     let n = got.unwrap_or(0);
-    let next = feed::take_block(fed, &block[..n], table, layer, line, out);
-    Taken {
-        went: how(got),
-        fed: next,
-    }
+    feed::take_block(reader, &block[..n]);
+    how(got)
 }
 
 // Ends the input, and puts the table behind what its last line says. Answers how many bytes of text there are.
-pub fn close(
-    fed: Feed,
-    table: &mut [u64; 1536],
-    layer: &mut [u64; 2560],
-    line: &[u8; 65],
-    out: &mut [u8; 204800],
-) -> usize
-    requires { Ready 1 fed }
-    ensures { Wrote (closing (hushed
-        (reading_of fed table.old layer.old line.now out.old)))
-        out.old 0 result out.new }
+pub fn close(reader: &mut Reader) -> usize
+    requires { Ready 1 reader.old }
+    ensures { Wrote (closing (hushed (reading_of reader.old))) reader.old.out 0 result reader.new.out }
 {
-    let last = feed::end_input(fed, table, layer, line, out);
-    let counts = last.counts;
-    show::finish(counts, table, layer, out, last.at)
+    feed::end_input(reader);
+    show::finish(
+        reader.counts,
+        &reader.table,
+        &reader.layer,
+        &mut reader.out,
+        reader.at,
+    )
 }

@@ -4,6 +4,7 @@
 ghost use Rattle.std.specs.Prelude.{◌≡◌};
 ghost use Rattle.model.specs.Calls.{change_answer, change_slice};
 
+use entry::Stored;
 use words::{Cause, Refusal};
 
 // Change column j of row number r to v: an added row gets the value; a base row's change of j gets it, or is entered in
@@ -30,6 +31,11 @@ pub fn change(
     if j == 0 {
         return words::refused(Cause::KeyColumn, 0);
     }
-    let x = plan::change(c, m, layer, keys, r, j, v);
+    let stored = Stored {
+        c,
+        m,
+        numbers: layer,
+    };
+    let x = plan::change(&stored, keys, r, j, v);
     enter::enter(c, m, x, layer)
 }

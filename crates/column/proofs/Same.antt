@@ -10,7 +10,7 @@ use lib.ListN.{length, get_or, drop}
 use lib.Seq.{slice, slice_empty, slice-cons, drop-cons}
 use lib.Dec.{eqb}
 use borrow.Author.Tests.{eq-eqb, ne_eqb}
-use Rattle.model.specs.Row.{Row, cell, column}
+use Rattle.model.specs.Row.{Row, cell}
 use Rattle.model.specs.Cell.{CellEdit, done}
 use Rattle.model.specs.Layer.{
   Deed,

@@ -9,7 +9,7 @@ use borrow.Fn.Kinds.{Dens, ended_of}
 use Rattle.column.proofs.read_part.Kinds as core_kinds
 use Rattle.column.proofs.read_part.Reads as core_contract
 
-module _ (κs : Lfts 3) (a : Dens κs core_kinds.ps) (s s' : AtExit (ended_of 3 core_kinds.ps core_kinds.r) κs) where
+module _ (κs : Lfts 4) (a : Dens κs core_kinds.ps) (s s' : AtExit (ended_of 4 core_kinds.ps core_kinds.r) κs) where
   pub read_part_unique : (r r' : ℕ) → core_contract.Post κs a r s → core_contract.Post κs a r' s'
-      → (r ≡ r') × (s.1.1.1.1.1.0.now ≡ s'.1.1.1.1.1.0.now)
+      → (r ≡ r') × (s.1.1.1.0.now ≡ s'.1.1.1.0.now)
   read_part_unique r r' p q = (p.0 ∙ sym q.0, p.1 ∙ sym q.1)

@@ -4,7 +4,8 @@ use Rattle.std.proofs.Math.Seq.{slice, paste}
 use Rattle.model.specs.Row.{cell}
 use Rattle.model.specs.Cell.{done}
 use Rattle.model.specs.Layer.{add, strike, change, at, Layer, rows_after}
-use Rattle.model.specs.Raw.{Held, layer_of}
+use Rattle.entry.specs.declared.slice.Stored.{Stored}
+use Rattle.entry.specs.Look.{edits}
 
 -- column j from base row s on; a change of another column does not end the run
 unfoldable pub runs_from : ℕ → ℕ → List ℕ → Layer → List ℕ
@@ -27,10 +28,9 @@ Ready j n s (at p (strike k) ∷ L) = (s ≤ p) × (p < n) × Ready j n (suc p) 
 Ready j n s (at p (change i e) ∷ L) =
     (eqb j i ≡ true → (s ≤ p) × (p < n) × Ready j n (suc p) L) × (eqb j i ≡ false → Ready j n s L)
 
--- what the reader of a column asks: the layer's slice, a column number below c, a layer ready to be read, and a buffer of
+-- what the reader of a column asks: a column number of the layer, a layer ready to be read, and a buffer of
 -- len numbers that holds the rows
-pub record Readable (c m : ℕ) (raw xs : List ℕ) (j len : ℕ) : Type 0 where
-  pub held : Held c m raw
-  pub column : j < c
-  pub ready : Ready j (length xs) 0 (layer_of c m raw)
-  pub room : rows_after (length xs) (layer_of c m raw) ≤ len
+pub record Readable (l : Stored) (xs : List ℕ) (j len : ℕ) : Type 0 where
+  pub column : j < l.c
+  pub ready : Ready j (length xs) 0 (edits l)
+  pub room : rows_after (length xs) (edits l) ≤ len

@@ -3,10 +3,11 @@
 
 ghost use Rattle.std.specs.Prelude.{◌≡◌, [], ◌∷◌, ◌++◌, ◌+◌, ◌≤◌, ◌<◌, length, drop};
 ghost use Rattle.std.proofs.Math.Seq.{slice};
-ghost use Rattle.model.specs.Calls.{shown_column};
+ghost use Rattle.model.specs.Read.{read_column};
+ghost use Rattle.entry.specs.Look.{edits};
 ghost use Rattle.column.specs.Runs.{Pasted, Readable};
 
-use entry::{Cursor, Sight};
+use entry::{Sight, Stored};
 
 // Shows the base rows from s up to p: writes them to the buffer from o on, and returns the index after the last.
 fn show_rows(base: &[u64], s: usize, p: usize, out: &mut [u64], o: usize) -> usize
@@ -27,30 +28,18 @@ fn show_rows_and(base: &[u64], s: usize, p: usize, v: u64, out: &mut [u64], o: u
 }
 
 // Writes column j, as the layer shows it, to the front of the buffer, and returns how many rows there are.
-pub fn read_part(
-    c: usize,
-    m: usize,
-    layer: &[u64],
-    base: &[u64],
-    j: usize,
-    out: &mut [u64],
-) -> usize
-    requires { Readable c m layer.now base.now j (length out.old) }
-    ensures { let shown = shown_column c m layer.now base.now j in
+pub fn read_part(layer: &Stored, base: &[u64], j: usize, out: &mut [u64]) -> usize
+    requires { Readable layer.now base.now j (length out.old) }
+    ensures { let shown = read_column j base.now (edits layer.now) in
         (result ≡ length shown) × (out.new ≡ shown ++ drop (length shown) out.old) }
 {
-    let mut k = Cursor::first();
     let mut s: usize = 0;
     let mut o: usize = 0;
-    while k.i < m {
-        let at = k.at;
-        let own = entry::value_at(c, at, j, layer);
-        let found = entry::look(c, m, layer, k);
-        k = k.next(c);
-        match found {
-            Sight::End => {}
-            Sight::Add(p, key) => {
+    for k in 0..layer.m {
+        match layer.sight(k) {
+            Sight::Add(p, _) => {
                 let p = p as usize;
+                let own = layer.value(k, j);
                 o = show_rows_and(base, s, p, own, out, o);
                 s = p;
             }

@@ -8,29 +8,22 @@ ghost use Rattle.woven.specs.Woven.{woven_layer};
 ghost use Rattle.over.specs.Over.{over};
 ghost use Rattle.turn.specs.Turn.{Both};
 
+use over::Stack;
 use words::{Cause, Refusal};
 
 // Both layers make more entries than so many: counted only where they have more together. The slice stays as it is.
-fn more_than(
-    room: usize,
-    c: usize,
-    keys: &[u64],
-    names: &[u64],
-    mr: usize,
-    r: &[u64],
-    mw: usize,
-    w: &[u64],
-    out: &mut [u64],
-) -> bool
-    requires { Both c keys.now (over c keys.now mr r.now) mr r.now mw w.now names.now }
-    ensures { let K = keys.now in (result ≡ ltb room (length (woven_layer K (over c K mr r.now)
-        (layer_of c mr r.now) (layer_of c mw w.now))))
+fn more_than(room: usize, s: &Stack, names: &[u64], out: &mut [u64]) -> bool
+    requires { let S = s.now in let K = S.keys.now in
+        Both S.c K (over S.c K S.mr S.r.now) S.mr S.r.now S.mw S.w.now names.now }
+    ensures { let S = s.now in let K = S.keys.now in
+        (result ≡ ltb room (length (woven_layer K (over S.c K S.mr S.r.now) (layer_of S.c S.mr S.r.now)
+        (layer_of S.c S.mw S.w.now))))
         × (out.new ≡ out.old) }
 {
-    if mr + mw <= room {
+    if s.mr + s.mw <= room {
         return false;
     }
-    room < weave::weave(false, c, keys, names, mr, r, mw, w, out)
+    room < weave::weave(false, s, names, out)
 }
 
 // Combines the lower layer R over the base keys and the upper layer W over what R shows into one layer over the base,
@@ -50,9 +43,17 @@ pub fn combine(
 {
     let mut names: [u64; 512] = [0; 512];
     stacked::check_both(c, keys, mr, r, mw, w, &mut names)?;
+    let s = Stack {
+        c,
+        keys,
+        mr,
+        r,
+        mw,
+        w,
+    };
     let room = store::room_of(c, out.len());
-    if more_than(room, c, keys, &names, mr, r, mw, w, out) {
+    if more_than(room, &s, &names, out) {
         return words::refused(Cause::NoRoom, 0);
     }
-    Ok(weave::weave(true, c, keys, &names, mr, r, mw, w, out))
+    Ok(weave::weave(true, &s, &names, out))
 }

@@ -4,7 +4,7 @@ use mathlib.Core.Path.{◌≡◌, refl, sym, ap, ◌∙◌}
 use mathlib.Core.Bool.{Bool, true, false, cond}
 use mathlib.Core.List.{List, [], ◌∷◌, ◌++◌, append_assoc, append-nil}
 use Prim.Native.Nat.{ℕ}
-use lib.ListN.{take, replicate}
+use lib.ListN.{take}
 use lib.Dec.{eqb}
 use Rattle.line.specs.Line.{line_of}
 use Rattle.hear.specs.Heard.{heard}
@@ -12,8 +12,10 @@ use Rattle.base.specs.Base.{Sheet}
 use Rattle.text.specs.Text.{Wrote, message}
 use Rattle.text.proofs.Writing.{wrote_before}
 use Rattle.show.specs.Shown.{ending}
-use Rattle.intake.specs.Reading.{Reading, line_in, byte_kept, byte_in, bytes_in, reading_of, Took}
-use Rattle.feed.specs.Input.{nothing_read, begun, hushed, last_in, input_ends}
+use Rattle.intake.specs.declared.Reader.{Reader}
+use Rattle.intake.specs.Reading.{Reading, line_in, byte_kept, byte_in, bytes_in}
+use Rattle.intake.specs.Reader.{reading_of}
+use Rattle.feed.specs.Input.{nothing_read, Begun, hushed, last_in, input_ends}
 use Rattle.feed.proofs.Feeding.{bytes_then}
 use Rattle.console.specs.Told.{closing, printed, zeros}
 use Rattle.console.specs.Run.{end_to_end, Run, none, next}
@@ -67,11 +69,11 @@ run_closing {i = i} {k = k} (next {b = b} {blocks = blocks} {texts = texts} {j =
     append_assoc j.text (end_to_end texts) (closing (hushed k))
     ∙ (ap (λ (t : List ℕ). j.text ++ t) (run_closing r)
     ∙ (block_then (end_to_end blocks) j
-    ∙ ap closing (ap (bytes_in (end_to_end blocks)) w.same ∙ sym (bytes_then b (end_to_end blocks) (hushed i)))))
+    ∙ ap closing (ap (bytes_in (end_to_end blocks)) w ∙ sym (bytes_then b (end_to_end blocks) (hushed i)))))
 
 -- the program's numbers, all zero, before the first block
-pub start_read : (line out : List ℕ) → reading_of begun (replicate 1536 0) (replicate 2560 0) line out ≡ nothing_read zeros
-start_read line out = refl
+pub start_read : {s : Reader} → Begun s → reading_of s ≡ nothing_read zeros
+start_read b = rw (b.counts, b.table, b.layer, b.kept, b.at)
 
 -- from the first block to the last text, which is that of the closing, written from the front on
 pub run_printed : {blocks texts : List (List ℕ)} {k : Reading} {old new : List ℕ} {r : ℕ} (x : Sheet) → Run blocks texts (nothing_read x) k →

@@ -1,7 +1,6 @@
 -- The input in blocks: each is taken where the last one left off, and what it says is written.
-use Rattle.std.specs.Prelude.{List, [], ◌∷◌, ◌++◌, ℕ}
-use Rattle.intake.specs.declared.Feed.{Feed}
-use Rattle.intake.specs.Reading.{Reading, Took}
+use Rattle.std.specs.Prelude.{◌≡◌, List, [], ◌∷◌, ◌++◌, ℕ}
+use Rattle.intake.specs.Reading.{Reading, bytes_in}
 use Rattle.feed.specs.Input.{hushed}
 
 -- one after the other
@@ -12,5 +11,5 @@ end_to_end (b ∷ bs) = b ++ end_to_end bs
 -- from the reading i the blocks lead to the reading k, and say these texts, one each
 pub data Run : List (List ℕ) → List (List ℕ) → Reading → Reading → Type 0 where
   none : {i : Reading} → Run [] [] i i
-  next : {b : List ℕ} {blocks texts : List (List ℕ)} {f f' : Feed} {i j k : Reading} → Took b f (hushed i) f' j
+  next : {b : List ℕ} {blocks texts : List (List ℕ)} {i j k : Reading} → j ≡ bytes_in b (hushed i)
       → Run blocks texts j k → Run (b ∷ blocks) (j.text ∷ texts) i k

@@ -72,6 +72,15 @@ digits_more (suc x) h =
 pub count_more : (x : ℕ) → 0 < x → length (digits x) ≡ length (digits (x / 10)) + 1
 count_more x h = ap length (digits_more x h) ∙ length-append (digits (x / 10)) ((48 + x % 10) ∷ [])
 
+-- digits are left exactly where the number is not 0
+pub none_left : (x : ℕ) → length (digits x) ≡ 0 → x ≡ 0
+none_left zero h = refl
+none_left (suc x) h = absurd (omega (arith, count_more (suc x) (omega arith)))
+
+pub some_left : (x : ℕ) → 0 < length (digits x) → 0 < x
+some_left zero h = absurd (omega (arith, ap length digits_zero))
+some_left (suc x) h = omega arith
+
 pub decimal_zero : decimal 0 ≡ 48 ∷ []
 unfolding decimal
 decimal_zero = refl

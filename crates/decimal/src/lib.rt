@@ -31,9 +31,7 @@ fn write_digits(x: u64, out: &mut [u8], at: usize, end: usize)
     ensures { out.new ≡ paste out.old at (digits x) (length (digits x)) }
 {
     let mut rest = x;
-    let mut i = end;
-    while 0 < rest {
-        i -= 1;
+    for i in (at..end).rev() {
         out[i] = last_digit(rest);
         rest /= 10;
     }

@@ -1,7 +1,6 @@
 // The calls on a case: a letter names the call; the first list has its numbers, the second the slice that it is lent to
 // alter or to look at, the others what else it is lent.
 use numbers::list;
-use words::Refusal;
 
 // The numbers of a call, named as those of change.
 #[derive(Clone, Copy)]
@@ -13,7 +12,7 @@ struct Args {
     v: u64,
 }
 
-// place c n m s ; layer
+// Where a row stands, and what stands there.
 fn place(a: Args, layer: &[u64]) {
     say::shift(position::shift(a.c, a.m, a.r, layer, a.j));
     say::answer(b", ", position::row(a.c, a.m, a.r, layer, a.j));
@@ -26,44 +25,67 @@ fn view<'a>(a: Args, out: &'a [u64], layer: &[u64], base: &'a [u64]) {
     say::shown(view::view(a.c, a.m, layer, base, a.r, out));
 }
 
-// The calls that alter what they are lent:
-// read c m j ; buffer ; layer ; column
-// add c m ; layer ; keys ; row
-// strike c m r ; layer ; keys
-// change c m r j v ; layer ; keys
-// number c n m r g ; layer ; table
-// combine c mr mw ; buffer ; keys ; R ; W
-// move c mx my ; X ; keys ; Y
-fn alter(
-    word: u8,
-    a: Args,
-    lent: &mut [u64],
-    one: &[u64],
-    two: &[u64],
-    three: &[u64],
-) -> Result<usize, Refusal> {
-    match word {
-        b'r' => read::read(a.c, a.m, one, two, a.r, lent),
-        b'a' => add::add(a.c, a.m, lent, one, two),
-        b's' => strike::strike(a.c, a.m, lent, one, a.r),
-        b'h' => change::change(a.c, a.m, lent, one, a.r, a.j, a.v),
-        b'n' => renumber::renumber(a.c, a.m, a.r, lent, one, a.j, a.v),
-        b'o' => combine::combine(a.c, one, a.m, two, a.r, three, lent),
-        _ => pass::move_past(a.c, one, a.m, lent, a.r, two),
+// The calls, with the lists of their cases:
+#[derive(Clone, Copy)]
+pub enum Call {
+    // fit c m ; layer ; keys
+    Fit,
+    // place c n m s ; layer
+    Place,
+    // read c m j ; buffer ; layer ; column
+    Read,
+    // add c m ; layer ; keys ; row
+    Add,
+    // strike c m r ; layer ; keys
+    Strike,
+    // change c m r j v ; layer ; keys
+    Change,
+    // number c n m r g ; layer ; table
+    Renumber,
+    // combine c mr mw ; buffer ; keys ; R ; W
+    Combine,
+    // move c mx my ; X ; keys ; Y
+    Move,
+}
+
+impl From<&[u8]> for Call {
+    // The first letter tells the calls apart, but of change and combine the second.
+    fn from(case: &[u8]) -> Self {
+        let letter = match case {
+            [b'c', second, ..] => *second,
+            [first, _, ..] => *first,
+            _ => 0,
+        };
+        match letter {
+            b'f' => Call::Fit,
+            b'p' => Call::Place,
+            b'r' => Call::Read,
+            b'a' => Call::Add,
+            b's' => Call::Strike,
+            b'h' => Call::Change,
+            b'n' => Call::Renumber,
+            b'o' => Call::Combine,
+            _ => Call::Move,
+        }
     }
 }
 
-// One of these, and fit c m ; layer ; keys
-fn on(word: u8, a: Args, was: &[u64], lent: &mut [u64], one: &[u64], two: &[u64], three: &[u64]) {
-    if word == b'p' {
-        return place(a, lent);
-    }
-    if word == b'f' {
-        return say::answer(b" ", fit::fit(a.c, a.m, lent, one));
-    }
-    say::answer(b" ", alter(word, a, lent, one, two, three));
+// The call, and what it answered and left.
+fn on(call: Call, a: Args, was: &[u64], lent: &mut [u64], one: &[u64], two: &[u64], three: &[u64]) {
+    let answer = match call {
+        Call::Fit => return say::answer(b" ", fit::fit(a.c, a.m, lent, one)),
+        Call::Place => return place(a, lent),
+        Call::Read => read::read(a.c, a.m, one, two, a.r, lent),
+        Call::Add => add::add(a.c, a.m, lent, one, two),
+        Call::Strike => strike::strike(a.c, a.m, lent, one, a.r),
+        Call::Change => change::change(a.c, a.m, lent, one, a.r, a.j, a.v),
+        Call::Renumber => renumber::renumber(a.c, a.m, a.r, lent, one, a.j, a.v),
+        Call::Combine => combine::combine(a.c, one, a.m, two, a.r, three, lent),
+        Call::Move => pass::move_past(a.c, one, a.m, lent, a.r, two),
+    };
+    say::answer(b" ", answer);
     say::left(was, lent);
-    if word == b'r' {
+    if matches!(call, Call::Read) {
         view(a, lent, one, two);
     }
 }
@@ -79,7 +101,7 @@ fn args_of(xs: &[u64; 16384]) -> Args {
 }
 
 // The call on the lists of a case, the second in a slice of its own.
-fn on_lists(word: u8, a: Args, xs: &[u64]) {
+fn on_lists(call: Call, a: Args, xs: &[u64]) {
     let was = list(xs, 0, 1);
     let mut space = [0u64; 8192];
     if was.len() <= 8192 {
@@ -88,13 +110,13 @@ fn on_lists(word: u8, a: Args, xs: &[u64]) {
         let one = list(xs, 1, 2);
         let two = list(xs, 2, 3);
         let three = list(xs, 3, 4);
-        on(word, a, was, &mut space[z..e], one, two, three);
+        on(call, a, was, &mut space[z..e], one, two, three);
     }
 }
 
 // Runs a case, and prints what it answers.
-pub fn run(word: u8, case: &[u8]) {
+pub fn run(case: &[u8]) {
     let mut xs = [0u64; 16384];
     numbers::read(case, &mut xs);
-    on_lists(word, args_of(&xs), &xs);
+    on_lists(Call::from(case), args_of(&xs), &xs);
 }

@@ -19,12 +19,13 @@ use Rattle.model.specs.Raw.{column_of, Held, entry_at, entries_of, none, edit_of
 use Rattle.words.specs.Entry.{ADD, STRIKE}
 use Rattle.theory.proofs.Raw.{entry_at_lem, entries_length, layer_length, within, small}
 use Rattle.theory.proofs.Edits.{deed_by}
-use Rattle.entry.specs.declared.Cursor.{Cursor}
 use Rattle.head.specs.declared.Head.{Head}
 use Rattle.entry.specs.declared.Sight.{Sight}
-use Rattle.entry.specs.declared.Sight.TheVariants.{End, Add, Strike, Change}
+use Rattle.entry.specs.declared.Sight.TheVariants.{Add, Strike, Change}
 use Rattle.head.specs.Head.{head_of}
-use Rattle.entry.specs.Look.{look_of, after, Placed}
+use Rattle.std.specs.Prelude.{Option, Some, None}
+use Rattle.entry.specs.declared.slice.Stored.{Stored}
+use Rattle.entry.specs.Look.{look_of, edits, entry_of}
 
 map_drop : (es : List Entry) (i : ℕ) → drop i (map edit_of es) ≡ map edit_of (drop i es)
 map_drop es zero = refl
@@ -53,6 +54,13 @@ module _ (c m i : ℕ) (xs : List ℕ) where
   pub room_here : Held c m xs → i < m → i * (c + 2) + (c + 2) ≤ length xs
   room_here H h = omega (arith, within i m (c + 2) h, H.room)
 
+-- an entry of a stored layer lies within the slice
+pub stored_here : (l : Stored) (i : ℕ) → i < l.m → i * (l.c + 2) + (l.c + 2) ≤ length l.numbers.now
+stored_here l i h = room_here l.c l.m i l.numbers.now l.held h
+
+pub stored_end : (l : Stored) (i : ℕ) → l.m ≤ i → drop i (edits l) ≡ []
+stored_end l i h = left_end l.c l.m i l.numbers.now h
+
 -- what its head tells of it
 abbrev pub found_by : Bool → Bool → Head → Sight
 found_by a b h = cond a (Add h.pos h.first) (cond b (Strike h.pos h.first) (Change h.pos (column_of h.kind) h.first))
@@ -61,27 +69,22 @@ abbrev pub found : Head → Sight
 found h = found_by (eqb h.kind ADD) (eqb h.kind STRIKE) h
 
 pub look_head : (c m i : ℕ) (xs : List ℕ) → i < m
-    → found (head_of (entry_at c (i * (c + 2)) xs)) ≡ look_of (drop i (layer_of c m xs))
+    → Some (found (head_of (entry_at c (i * (c + 2)) xs))) ≡ look_of (drop i (layer_of c m xs))
 unfolding key
 look_head c m i xs h = rw (left_step c m i xs h) (by (eqb e.kind ADD) (eqb e.kind STRIKE))
   where
     e : Entry
     e = entry_at c (i * (c + 2)) xs
 
-    by : (a b : Bool) → found_by a b (head_of e)
+    by : (a b : Bool) → Some (found_by a b (head_of e))
         ≡ look_of (at e.pos (deed_by a b e.vals (get_or e.vals 0 0) e.kind) ∷ drop (i + 1) (layer_of c m xs))
     by true b = refl
     by false true = refl
     by false false = refl
 
--- where an entry stands, at most 5,120 numbers on
-pub near : {c m : ℕ} {xs : List ℕ} (k : Cursor) → Held c m xs → Placed c k → k.i ≤ m → k.at ≤ 5120
-near {c} k H p h = omega (arith, p, small {m = k.i} {c = c} (omega (arith, H.entries)) H.columns)
-
--- the cursor after this one stands at its entry
-pub after_placed : (c : ℕ) (k : Cursor) → Placed c k → Placed c (after c k)
-after_placed c k p =
-    omega (arith, p, suc-mul k.i (c + 2), ap (λ (n : ℕ). n * (c + 2)) (add-one k.i))
+-- and what it does is found by its head
+pub stored_look : (l : Stored) (i : ℕ) → i < l.m → Some (found (head_of (entry_of l i))) ≡ look_of (drop i (edits l))
+stored_look l i h = look_head l.c l.m i l.numbers.now h
 
 -- the edits from number i on begin with e
 pub record Here (L : Layer) (i : ℕ) (e : Edit) : Type 0 where
@@ -97,17 +100,17 @@ begins (d ∷ L) (suc i) e M h =
     record { below = omega (arith, w.below); split = w.split ∙ rw (add-one, add-one) }
 
 -- what a look finds
-pub look_end : (L : Layer) (i : ℕ) → look_of (drop i L) ≡ End → length L ≤ i
+pub look_end : (L : Layer) (i : ℕ) → look_of (drop i L) ≡ None → length L ≤ i
 look_end [] i h = omega arith
 look_end (at s (add r) ∷ L) zero h = impossible (cc)
 look_end (at s (strike k) ∷ L) zero h = impossible (cc)
 look_end (at s (change j (to v)) ∷ L) zero h = impossible (cc)
 look_end (e ∷ L) (suc i) h = omega (arith, look_end L i h)
 
-pub look_add : (L : Layer) (i s k : ℕ) → look_of (drop i L) ≡ Add s k → (r : Row) × Here L i (at s (add r)) × (key r ≡ k)
+pub look_add : (L : Layer) (i s k : ℕ) → look_of (drop i L) ≡ Some (Add s k) → (r : Row) × Here L i (at s (add r)) × (key r ≡ k)
 look_add L i s k = go (drop i L) refl
   where
-    go : (M : Layer) → drop i L ≡ M → look_of M ≡ Add s k → (r : Row) × Here L i (at s (add r)) × (key r ≡ k)
+    go : (M : Layer) → drop i L ≡ M → look_of M ≡ Some (Add s k) → (r : Row) × Here L i (at s (add r)) × (key r ≡ k)
     go [] d h = impossible (cc)
     go (at p (add r) ∷ M) d h =
         let e : p ≡ s = cc in
@@ -115,10 +118,10 @@ look_add L i s k = go (drop i L) refl
     go (at p (strike l) ∷ M) d h = impossible (cc)
     go (at p (change j (to v)) ∷ M) d h = impossible (cc)
 
-pub look_strike : (L : Layer) (i s k : ℕ) → look_of (drop i L) ≡ Strike s k → Here L i (at s (strike k))
+pub look_strike : (L : Layer) (i s k : ℕ) → look_of (drop i L) ≡ Some (Strike s k) → Here L i (at s (strike k))
 look_strike L i s k = go (drop i L) refl
   where
-    go : (M : Layer) → drop i L ≡ M → look_of M ≡ Strike s k → Here L i (at s (strike k))
+    go : (M : Layer) → drop i L ≡ M → look_of M ≡ Some (Strike s k) → Here L i (at s (strike k))
     go [] d h = impossible (cc)
     go (at p (add r) ∷ M) d h = impossible (cc)
     go (at p (strike l) ∷ M) d h =
@@ -127,10 +130,10 @@ look_strike L i s k = go (drop i L) refl
         begins L i (at s (strike k)) M (d ∙ (λ n. at (e n) (strike (f n)) ∷ M))
     go (at p (change j (to v)) ∷ M) d h = impossible (cc)
 
-pub look_change : (L : Layer) (i s j v : ℕ) → look_of (drop i L) ≡ Change s j v → Here L i (at s (change j (to v)))
+pub look_change : (L : Layer) (i s j v : ℕ) → look_of (drop i L) ≡ Some (Change s j v) → Here L i (at s (change j (to v)))
 look_change L i s j v = go (drop i L) refl
   where
-    go : (M : Layer) → drop i L ≡ M → look_of M ≡ Change s j v → Here L i (at s (change j (to v)))
+    go : (M : Layer) → drop i L ≡ M → look_of M ≡ Some (Change s j v) → Here L i (at s (change j (to v)))
     go [] d h = impossible (cc)
     go (at p (add r) ∷ M) d h = impossible (cc)
     go (at p (strike l) ∷ M) d h = impossible (cc)

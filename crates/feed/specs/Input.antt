@@ -1,10 +1,11 @@
 -- The input: its start, what a block of its bytes needs, its lines, and its end.
-use Rattle.std.specs.Prelude.{◌≡◌, false, cond, List, [], ◌∷◌, ◌++◌, ℕ, ◌+◌, ◌≤◌, ◌<◌, eqb}
+use Rattle.std.specs.Prelude.{◌≡◌, false, cond, List, [], ◌∷◌, ◌++◌, ℕ, ◌+◌, ◌≤◌, ◌<◌, eqb, replicate}
 use Rattle.order.specs.Lists.{in_turn}
 use Rattle.base.specs.declared.Counts.{Counts}
-use Rattle.base.specs.Base.{Sheet, most_base}
-use Rattle.intake.specs.declared.Feed.{Feed}
-use Rattle.intake.specs.Reading.{Reading, most_kept, line_in}
+use Rattle.base.specs.Base.{Sheet}
+use Rattle.intake.specs.declared.Reader.{Reader}
+use Rattle.intake.specs.Reading.{Reading, line_in}
+use Rattle.intake.specs.Reader.{reading_of}
 
 -- before the first line: no base row, no entry, no line read, nothing said
 abbrev pub at_start : Counts
@@ -13,22 +14,25 @@ at_start = record { rows = 0; entries = 0; edited = false; lines = 0 }
 abbrev pub nothing_read : Sheet → Reading
 nothing_read x = record { counts = at_start; sheet = x; line = []; text = [] }
 
-abbrev pub begun : Feed
-begun = record { counts = at_start; kept = 0; at = 0 }
+-- the same in the program's numbers, all zero
+pub record Begun (s : Reader) : Type 0 where
+  pub counts : s.counts ≡ at_start
+  pub table : s.table ≡ replicate 1536 0
+  pub layer : s.layer ≡ replicate 2560 0
+  pub kept : s.kept ≡ 0
+  pub at : s.at ≡ 0
 
 -- what was said is written, and the text starts anew
 abbrev pub hushed : Reading → Reading
 hushed i = record { counts = i.counts; sheet = i.sheet; line = i.line; text = [] }
 
-abbrev pub anew : Feed → Feed
-anew f = record { counts = f.counts; kept = f.kept; at = 0 }
+abbrev pub anew : Reader → Reader
+anew s = record s { at = 0 }
 
 -- what a block of n bytes needs: its text fits the buffer from the front on
-pub record Ready (n : ℕ) (f : Feed) : Type 0 where
-  pub standing : f.counts.rows ≤ most_base
-  pub short : f.kept ≤ most_kept
+pub record Ready (n : ℕ) (s : Reader) : Type 0 where
   pub few : n ≤ 4096
-  pub countable : f.counts.lines + n < 9223372036854775808
+  pub countable : s.counts.lines + n < 9223372036854775808
 
 -- the lines of the input, the first of which has begun with l: each up to its line feed, which the last may lack
 abbrev pub last_line : List ℕ → List (List ℕ)
@@ -55,8 +59,7 @@ unfoldable pub input_ends : Reading → Reading
 input_ends i = last_in i.line i
 
 -- what is owed for the end of the input
-pub record Closed (f : Feed) (i : Reading) (f' : Feed) (i' : Reading) : Type 0 where
-  pub same : i' ≡ input_ends i
-  pub standing : f'.counts.rows ≤ most_base
-  pub short : f'.kept ≡ 0
-  pub said : f'.at ≤ f.at + 50
+pub record Closed (s t : Reader) : Type 0 where
+  pub same : reading_of t ≡ input_ends (reading_of s)
+  pub short : t.kept ≡ 0
+  pub said : t.at ≤ s.at + 50

@@ -28,15 +28,13 @@ pub fn number_at(bytes: &[u8], at: usize) -> Option<Field>
 {
     let mut v: u64 = 0;
     let mut k: usize = 0;
-    let mut i = at;
-    while i < bytes.len() {
+    for i in at..bytes.len() {
         let b = bytes[i];
-        i += 1;
         if b == b' ' {
             if k < 1 {
                 return None;
             }
-            return Some(Field::More(v, i));
+            return Some(Field::More(v, i + 1));
         }
         if 20 <= k {
             return None;

@@ -2,37 +2,32 @@
 #![tactic(auto)]
 
 ghost use Rattle.std.specs.Prelude.{◌≡◌, length};
-ghost use Rattle.model.specs.Raw.{layer_of};
 ghost use Rattle.model.specs.Fit.{fit_place};
 ghost use Rattle.model.specs.Calls.{ready_answer, fit_answer};
+ghost use Rattle.entry.specs.Look.{edits};
 ghost use Rattle.form.specs.InForm.{InForm};
 
+use entry::Stored;
+use head::Head;
 use words::{Cause, Refusal};
 
 // The place of the least entry of a layer in form that does not fit the keys, or m.
-pub fn fit_place(c: usize, m: usize, layer: &[u64], keys: &[u64]) -> usize
-    requires { InForm c (length keys.now) m layer.now }
-    ensures { result ≡ fit_place keys.now (layer_of c m layer.now) }
+pub fn fit_place(layer: &Stored, keys: &[u64]) -> usize
+    requires { let l = layer.now in InForm l.c (length keys.now) l.m l.numbers.now }
+    ensures { result ≡ fit_place keys.now (edits layer.now) }
 {
-    let mut i: usize = 0;
-    let mut at: usize = 0;
-    let mut p: u64 = 0;
-    let mut q: u64 = 0;
-    let mut u: u64 = 0;
-    while i < m {
-        let s = layer[at];
-        let k = layer[at + 1];
-        let v = layer[at + 2];
-        if !suit::fits_after(c, m, i, at, layer, keys, p, q, u) {
+    let mut before = Head {
+        pos: 0,
+        kind: 0,
+        first: 0,
+    };
+    for i in 0..layer.m {
+        if !suit::fits_after(layer, i, keys, before) {
             return i;
         }
-        p = s;
-        q = k;
-        u = v;
-        at += c + 2;
-        i += 1;
+        before = layer.head(i);
     }
-    i
+    layer.m
 }
 
 // Refusals 1 to 4 of one layer, one after the other: arguments, form, keys, fit. It walks the layer for form, then for fit.
@@ -43,7 +38,12 @@ fn in_turn(c: usize, m: usize, layer: &[u64], keys: &[u64]) -> Result<usize, Ref
     if !keys::ascend(keys) {
         return words::refused(Cause::KeysUnordered, 0);
     }
-    let place = fit_place(c, m, layer, keys);
+    let stored = Stored {
+        c,
+        m,
+        numbers: layer,
+    };
+    let place = fit_place(&stored, keys);
     if place < m {
         return words::refused(Cause::BadFit, place);
     }
@@ -60,7 +60,12 @@ pub fn ready(c: usize, m: usize, layer: &[u64], keys: &[u64]) -> Result<usize, R
     if !form::args_ok(c, n, m, layer.len()) {
         return words::refused(Cause::BadArguments, 0);
     }
-    let seen = vet::form_and_fit(c, m, layer, keys);
+    let stored = Stored {
+        c,
+        m,
+        numbers: layer,
+    };
+    let seen = vet::form_and_fit(&stored, keys);
     if seen.place < m {
         return in_turn(c, m, layer, keys);
     }

@@ -6,6 +6,7 @@ ghost use Rattle.model.specs.Form.{args_ok};
 ghost use Rattle.model.specs.Calls.{form_answer};
 ghost use Rattle.scan.specs.Scan.{Judged, judgement};
 
+use entry::Stored;
 use words::{Cause, MOST_COLUMNS, MOST_ENTRIES, MOST_ROWS, Refusal};
 
 // The arguments pass refusal 1: c columns, n rows, m entries in a slice of len numbers.
@@ -45,7 +46,12 @@ pub fn check(c: usize, n: usize, m: usize, layer: &[u64]) -> Result<usize, Refus
     if !args_ok(c, n, m, layer.len()) {
         return words::refused(Cause::BadArguments, 0);
     }
-    judge(n, m, scan::scan_layer(c, n, m, layer))
+    let stored = Stored {
+        c,
+        m,
+        numbers: layer,
+    };
+    judge(n, m, scan::scan_layer(n, &stored))
 }
 
 // The same check, for calls that are made of empty layers too: such a layer has only its arguments to check, which spares it the pass over entries.

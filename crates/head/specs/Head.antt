@@ -1,10 +1,14 @@
 -- An entry by its head: position, kind and first value, which order and conflict go by.
-use Rattle.std.specs.Prelude.{[], ◌∷◌, get_or}
+use Rattle.std.specs.Prelude.{[], ◌∷◌, ℕ, get_or}
 use Rattle.words.specs.declared.Entry.{Entry}
 use Rattle.model.specs.Cell.{CellEdit, to}
 use Rattle.model.specs.Layer.{Edit, at}
 use Rattle.model.specs.Raw.{deed_of}
 use Rattle.head.specs.declared.Head.{Head}
+
+-- the head of an entry at a position, of a kind, with a first value
+abbrev pub headed : ℕ → ℕ → ℕ → Head
+headed pos kind first = record { pos = pos; kind = kind; first = first }
 
 abbrev pub head_of : Entry → Head
 head_of e = record { pos = e.pos; kind = e.kind; first = get_or e.vals 0 0 }

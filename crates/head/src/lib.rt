@@ -6,16 +6,26 @@ ghost use Rattle.model.specs.Raw.{column_of};
 ghost use Rattle.model.specs.Cell.{agree};
 ghost use Rattle.model.specs.Edits.{before};
 ghost use Rattle.model.specs.Conflict.{clash};
-ghost use Rattle.head.specs.Head.{seen, cell_of};
+ghost use Rattle.head.specs.Head.{headed, seen, cell_of};
 
 use words::{Entry, Rule};
 
-// The head of an entry: its position, its kind and its first value, which is an add's or a strike's key.
+// The head of an entry: its position, its kind and its first value, which is an add's or a strike's key. The kind is the entry's
+// own number (`words::Entry`), since the form check reads heads whose kind is none.
 #[derive(Clone, Copy)]
 pub struct Head {
     pub pos: u64,
     pub kind: u64,
     pub first: u64,
+}
+
+impl Head {
+    // The head of an entry at a position, of a kind, with a first value.
+    pub fn new(pos: u64, kind: u64, first: u64) -> Self
+        ensures { result ≡ headed pos kind first }
+    {
+        Self { pos, kind, first }
+    }
 }
 
 // The column that an entry of this kind changes, where it is a change.
@@ -25,7 +35,8 @@ pub fn column_of(kind: u64) -> u64
     kind
 }
 
-// An entry with the head d stands before one with the head e in a layer.
+// An entry with the head d stands before one with the head e in a layer. It is no `Ord`: two changes of one cell, or two strikes
+// of one row, stand neither before the other, though their heads differ.
 pub fn stands_before(d: Head, e: Head) -> bool
     ensures { result ≡ before (seen d) (seen e) }
 {

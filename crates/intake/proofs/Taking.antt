@@ -1,6 +1,6 @@
 -- One byte taken: a line ended, or a byte kept.
 -- Assumes nothing.
-use mathlib.Core.Path.{◌≡◌, refl, sym, ◌∙◌}
+use mathlib.Core.Path.{◌≡◌, refl, sym, ap, ◌∙◌}
 use mathlib.Core.Bool.{Bool, true, false, cond}
 use mathlib.Core.List.{List, [], ◌∷◌, ◌++◌}
 use Prim.Native.Nat.{ℕ, ◌+◌, ◌≤◌, ◌<◌}
@@ -22,11 +22,12 @@ use Rattle.base.specs.declared.Reply.{Reply}
 use Rattle.text.specs.Text.{Wrote, message}
 use Rattle.text.specs.declared.Said.TheVariants.{Unread, Refused}
 use Rattle.text.proofs.Writing.{wrote_before, wrote_then}
-use Rattle.base.specs.Base.{Sheet, most_base, shut, below_last, base_reply, stay, grown}
+use Rattle.base.specs.Base.{Sheet, sheet_of, most_base, shut, below_last, base_reply, stay, grown}
 use Rattle.reply.specs.Reply.{entered}
 use Rattle.hear.specs.Heard.{added, struck, changed, renumbered, heard, Heard}
-use Rattle.intake.specs.declared.Feed.{Feed}
-use Rattle.intake.specs.Reading.{Reading, most_kept, bytes_in, Writes, Took, Ended}
+use Rattle.intake.specs.declared.Reader.{Reader}
+use Rattle.intake.specs.Reading.{Reading, most_kept, byte_kept, bytes_in}
+use Rattle.intake.specs.Reader.{reading_of, Took, Ended}
 
 -- a byte past the room is not kept
 pub keep_full : (line : List ℕ) (kept b : ℕ) → length line ≡ most_kept → kept ≤ most_kept → most_kept ≤ kept →
@@ -71,47 +72,42 @@ heard_counts (Some (Renumber r g)) d x h = heard_entered d (renumbered d x r g) 
 heard_counts None d x h = (h, refl)
 
 -- a line ended
-pub ended : (f : Feed) (x x' : Sheet) (line out out' : List ℕ) (s : Reply) (q : ℕ) → f.counts.rows ≤ most_base →
-    Heard (line_of (take f.kept line)) f.counts x s x' → Wrote (message s.counts.lines s.said) out f.at q out' →
-    q ≤ f.at + 50 →
-    Ended f (record { counts = f.counts; sheet = x; line = take f.kept line; text = take f.at out })
-    (record { counts = s.counts; kept = 0; at = q })
-    (record { counts = s.counts; sheet = x'; line = []; text = take q out' })
-ended f x x' line out out' s q h w v l =
-    let c = heard_counts (line_of (take f.kept line)) f.counts x h in
-    record {
-      same = rw (wrote_before v, w.sheet, ← w.reply);
-      standing = rw w.reply c.0;
-      short = refl;
-      said = l;
-      counted = rw w.reply c.1;
-    }
+pub ended : {s t : Reader} {r : Reply} →
+    Heard (line_of (take s.kept s.line)) s.counts (sheet_of s.table s.layer) r (sheet_of t.table t.layer) → t.counts ≡ r.counts → t.kept ≡ 0 →
+    Wrote (message r.counts.lines r.said) s.out s.at t.at t.out → t.at ≤ s.at + 50 → Ended s t
+ended {s = s} w e k v l = record {
+  same = rw (e, k, wrote_before v, w.sheet, ← w.reply);
+  short = k;
+  said = l;
+  counted =
+      rw (e, w.reply)
+      (heard_counts (line_of (take s.kept s.line)) s.counts (sheet_of s.table s.layer) s.standing).1;
+}
 
--- and its message stands behind what was said
-pub writes_on : {ys out new : List ℕ} {o q : ℕ} → Wrote ys out o q new → Writes o out q new
+-- what a text buffer says from the front on, and what it says once more is written behind it, or none is
+abbrev Says : ℕ → List ℕ → ℕ → List ℕ → Type 0
+Says o out q new = (old : List ℕ) → Wrote (take o out) old 0 o out → Wrote (take q new) old 0 q new
+
+pub writes_on : {ys out new : List ℕ} {o q : ℕ} → Wrote ys out o q new → Says o out q new
 writes_on v old w = rw (wrote_before v) (wrote_then w v)
 
+pub writes_none : {out new : List ℕ} {o q : ℕ} → q ≡ o → new ≡ out → Says o out q new
+writes_none a e old w = rw (a, e) w
+
 -- one byte: a line feed, or one that is kept
-pub took_line : {f f' : Feed} {i i' : Reading} (b : ℕ) → b ≡ 10 → Ended f i f' i' → Took (b ∷ []) f i f' i'
+pub took_line : {s t : Reader} (b : ℕ) → b ≡ 10 → Ended s t → Took (b ∷ []) s t
 unfolding bytes_in
 took_line b e w = record {
   same = w.same ∙ rw (eq-eqb b 10 e);
-  standing = w.standing;
-  short = omega (arith, w.short);
   said = omega (arith, w.said);
   counted = omega (arith, w.counted);
 }
 
-pub took_byte : (f : Feed) (x : Sheet) (line line' out : List ℕ) (b kept : ℕ) → (b ≡ 10 → ⊥) → f.counts.rows ≤ most_base →
-    kept ≤ most_kept → take kept line' ≡ take most_kept (take f.kept line ++ (b ∷ [])) →
-    Took (b ∷ []) f (record { counts = f.counts; sheet = x; line = take f.kept line; text = take f.at out })
-    (record { counts = f.counts; kept = kept; at = f.at })
-    (record { counts = f.counts; sheet = x; line = take kept line'; text = take f.at out })
+pub took_byte : {s t : Reader} (b : ℕ) → (b ≡ 10 → ⊥) → reading_of t ≡ byte_kept b (reading_of s) → t.at ≡ s.at →
+    Took (b ∷ []) s t
 unfolding bytes_in
-took_byte f x line line' out b kept n h k e = record {
-  same = rw (ne_eqb b 10 n, e);
-  standing = h;
-  short = k;
-  said = omega arith;
-  counted = omega arith;
+took_byte b n e a = record {
+  same = e ∙ rw (ne_eqb b 10 n);
+  said = omega (arith, a);
+  counted = omega (arith, ap (λ (i : Reading). i.counts.lines) e);
 }

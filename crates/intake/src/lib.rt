@@ -1,82 +1,66 @@
 // One byte of the input taken: a line feed ends a line, which is heard; any other byte is kept.
 #![tactic(auto)]
 
-ghost use Rattle.std.specs.Prelude.{◌≡◌, [], ◌∷◌, ◌++◌, ◌≤◌, length, take};
-ghost use Rattle.intake.specs.Reading.{most_kept, reading_of, Writes, Took, Spacious, Ended};
+ghost use Rattle.std.specs.Prelude.{◌≡◌, [], ◌∷◌, ◌≤◌};
+ghost use Rattle.base.specs.Base.{most_base};
+ghost use Rattle.intake.specs.Reading.{most_kept, byte_kept};
 
 use base::Counts;
 
-// Where the reading stands: the counts, how many bytes of the line are kept, and how many bytes of text are written.
-#[derive(Clone, Copy)]
-pub struct Feed {
+// What is read so far: the counts, the base table and the layer over it, the bytes kept of the line that has begun, and
+// the text that was said.
+#[derive(Drop)]
+pub struct Reader {
     pub counts: Counts,
+    pub table: [u64; 1536],
+    pub layer: [u64; 2560],
     pub kept: usize,
+    pub line: [u8; 65],
     pub at: usize,
+    pub out: [u8; 204800],
+    pub ghost standing: { counts.rows ≤ most_base },
+    pub ghost short: { kept ≤ most_kept },
 }
 
-// Keeps one byte more of the line, up to 65.
-fn keep(b: u8, line: &mut [u8], kept: usize) -> usize
-    requires { (kept ≤ most_kept) × (length line.old ≡ most_kept) }
-    ensures { (result ≤ most_kept)
-        × (take result line.new ≡ take most_kept (take kept line.old ++ (b ∷ []))) }
-{
-    if 65 <= kept {
-        return kept;
-    }
-    line[kept] = b;
-    kept + 1
-}
+impl Reader {
+    ghost use Rattle.intake.specs.Reader.{reading_of, Writes, Took, Spacious, Ended};
 
-// Ends the line that has begun.
-pub fn end_line(
-    feed: Feed,
-    table: &mut [u64; 1536],
-    layer: &mut [u64; 2560],
-    line: &[u8],
-    out: &mut [u8; 204800],
-) -> Feed
-    requires { Spacious 1 feed × (length line.now ≡ most_kept) }
-    ensures { Ended feed
-        (reading_of feed table.old layer.old line.now out.old)
-        result (reading_of result table.new layer.new line.now out.new)
-        × Writes feed.at out.old result.at out.new }
-{
-    let before = feed.counts;
-    let kept = feed.kept;
-    let reply = hear::hear(before, &line[..kept], table, layer);
-    let counts = reply.counts;
-    let said = reply.said;
-    let at = text::say(said, counts.lines, out, feed.at);
-    Feed {
-        counts,
-        kept: 0,
-        at,
+    // Keeps one byte more of the line, up to 65.
+    fn keep(&mut self, b: u8)
+        ensures { (reading_of self.new ≡ byte_kept b (reading_of self.old))
+            × (self.new.at ≡ self.old.at) × (self.new.out ≡ self.old.out) }
+    {
+        if self.kept < 65 {
+            self.line[self.kept] = b;
+            self.kept += 1;
+        }
     }
-}
 
-// Takes one byte.
-pub fn take_byte(
-    feed: Feed,
-    b: u8,
-    table: &mut [u64; 1536],
-    layer: &mut [u64; 2560],
-    line: &mut [u8; 65],
-    out: &mut [u8; 204800],
-) -> Feed
-    requires { Spacious 1 feed }
-    ensures { Took (b ∷ []) feed
-        (reading_of feed table.old layer.old line.old out.old)
-        result (reading_of result table.new layer.new line.new out.new)
-        × Writes feed.at out.old result.at out.new }
-{
-    if b == b'\n' {
-        return end_line(feed, table, layer, line, out);
+    // Ends the line that has begun.
+    pub fn end_line(&mut self)
+        requires { Spacious 1 self.old }
+        ensures { Ended self.old self.new × Writes self.old self.new }
+    {
+        let reply = hear::hear(
+            self.counts,
+            &self.line[..self.kept],
+            &mut self.table,
+            &mut self.layer,
+        );
+        self.at = text::say(reply.said, reply.counts.lines, &mut self.out, self.at);
+        self.counts = reply.counts;
+        self.kept = 0;
     }
-    let counts = feed.counts;
-    let kept = keep(b, line, feed.kept);
-    Feed {
-        counts,
-        kept,
-        at: feed.at,
+
+    // Takes one byte.
+    pub fn take_byte(&mut self, b: u8)
+        requires { Spacious 1 self.old }
+        ensures { Took (b ∷ []) self.old self.new × Writes self.old self.new }
+    {
+        if b == b'\n' {
+            self.end_line();
+        } else {
+            self.keep(b);
+        }
     }
 }

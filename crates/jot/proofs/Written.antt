@@ -1,28 +1,33 @@
--- Eight stores are a number's bytes pasted; a run of numbers written: its start, and one more.
+-- The bytes of a number pasted; a run of numbers written: its start, and one more.
 -- Assumes nothing.
-use Prim.Native.Nat.{ℕ, suc, ◌+◌, ◌*◌, ◌≤◌, ◌<◌}
+use Prim.Native.Nat.{ℕ, suc, ◌+◌, ◌-◌, ◌*◌, ◌/◌, ◌≤◌, ◌<◌}
 use native.Mathlib.Numerals.{add-one}
 use native.Mathlib.Omega.{arith}
 use mathlib.Core.Path.{◌≡◌, refl, sym, ap, ◌∙◌}
 use mathlib.Core.List.{List, [], ◌∷◌, ◌++◌}
-use lib.ListN.{length, get_or, take, drop, set}
-use lib.Seq.{take-suc, take_at, drop-append-add, drop-drop, length-take-le, sets-eq, paste}
+use lib.ListN.{length, get_or, take, drop}
+use lib.Seq.{take-suc, take_at, drop-append-add, drop-drop, length-take-le, paste}
+use borrow.Rule.Slice.PartMut.{put_mid}
+use Rattle.std.specs.Int.{w64, to_le_bytes}
+use Rattle.run.proofs.Laws.{put_back}
 use Rattle.little.specs.Little.{eight, eights}
 use Rattle.little.proofs.Numbers.{eights_length, eights_append}
 
--- the bytes a to h stored from `at` on
-pub eight_stores : (l : List ℕ) (at : ℕ) → at + 8 ≤ length l → (a b c d e f g h : ℕ)
-    → set (set (set (set (set (set (set (set l at a) (at + 1) b) (at + 2) c) (at + 3) d) (at + 4) e) (at + 5) f) (at + 6) g) (at + 7) h
-    ≡ paste l at (a ∷ b ∷ c ∷ d ∷ e ∷ f ∷ g ∷ h ∷ []) 8
-eight_stores l at r a b c d e f g h =
-    let e1 : at + 1 ≡ suc at = omega arith in
-    let e2 : at + 2 ≡ suc (suc at) = omega arith in
-    let e3 : at + 3 ≡ suc (suc (suc at)) = omega arith in
-    let e4 : at + 4 ≡ suc (suc (suc (suc at))) = omega arith in
-    let e5 : at + 5 ≡ suc (suc (suc (suc (suc at)))) = omega arith in
-    let e6 : at + 6 ≡ suc (suc (suc (suc (suc (suc at))))) = omega arith in
-    let e7 : at + 7 ≡ suc (suc (suc (suc (suc (suc (suc at)))))) = omega arith in
-    rw (e1, e2, e3, e4, e5, e6, e7) (sets-eq (a ∷ b ∷ c ∷ d ∷ e ∷ f ∷ g ∷ h ∷ []) l at r)
+-- the library's bytes of a number are ours
+le_eight : (v : ℕ) → to_le_bytes w64 v ≡ eight v
+le_eight v =
+    let b : v / 65536 ≡ v / 256 / 256 = omega arith in
+    let c : v / 16777216 ≡ v / 256 / 256 / 256 = omega arith in
+    let d : v / 4294967296 ≡ v / 256 / 256 / 256 / 256 = omega arith in
+    let e : v / 1099511627776 ≡ v / 256 / 256 / 256 / 256 / 256 = omega arith in
+    let f : v / 281474976710656 ≡ v / 256 / 256 / 256 / 256 / 256 / 256 = omega arith in
+    let g : v / 72057594037927936 ≡ v / 256 / 256 / 256 / 256 / 256 / 256 / 256 = omega arith in
+    rw (b, c, d, e, f, g)
+
+-- a part of eight bytes that has become them, put back
+pub put_eight : (l t : List ℕ) (at v : ℕ) {bs : List ℕ} → t ≡ bs → bs ≡ to_le_bytes w64 v
+    → put_mid at (at + 8 - at) l t ≡ paste l at (eight v) 8
+put_eight l t at v e f = put_back l (eight v) t at (e ∙ (f ∙ le_eight v))
 
 -- the first i numbers written over the front of d
 abbrev pub front : List ℕ → List ℕ → ℕ → List ℕ

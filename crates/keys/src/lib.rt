@@ -34,12 +34,10 @@ fn ascend_from(keys: &[u64], from: usize) -> bool
     requires { from < length keys.now }
     ensures { result ≡ ascend_from keys.now from }
 {
-    let mut i = from;
-    while 1 < keys.len() - i {
+    for i in from..keys.len() - 1 {
         if keys[i + 1] <= keys[i] {
             return false;
         }
-        i += 1;
     }
     true
 }
@@ -51,30 +49,19 @@ pub fn ascend(keys: &[u64]) -> bool
     if keys.len() == 0 {
         return true;
     }
-    let mut i: usize = 0;
-    while 8 < keys.len() - i {
-        if !nine_ascend(keys, i) {
+    let eights = (keys.len() - 1) / 8;
+    for k in 0..eights {
+        if !nine_ascend(keys, 8 * k) {
             return false;
         }
-        i += 8;
     }
-    ascend_from(keys, i)
+    ascend_from(keys, 8 * eights)
 }
 
-// How many of the keys, which ascend, lie below k: at least lo and at most hi, halved until they meet.
+// How many of the keys, which ascend, lie below k.
 pub fn below(k: u64, keys: &[u64]) -> usize
     requires { ascending keys.now ≡ true }
     ensures { result ≡ keys_below k keys.now }
 {
-    let mut lo: usize = 0;
-    let mut hi = keys.len();
-    while lo < hi {
-        let mid = lo + (hi - lo) / 2;
-        if keys[mid] < k {
-            lo = mid + 1;
-        } else {
-            hi = mid;
-        }
-    }
-    lo
+    keys.partition_point(|x| *x < k)
 }

@@ -19,6 +19,7 @@ use mathlib.Core.List.{
 use lib.ListN.{length, get_or, take, drop, take-append-drop}
 use lib.Dec.{ltb, eqb}
 use borrow.Author.Tests.{lt-ltb, ltb-true, ltb-false, eqb-true, eq-eqb, ne_eqb, eqb-false, not-true}
+use Rattle.std.specs.Prelude.{Option, Some}
 use Rattle.order.specs.Lists.{count}
 use Rattle.order.proofs.Tests.{impossible, and_l, and_r, and_of, or_cases, or_l, or_r, same_test, not_passed}
 use Rattle.order.proofs.Members.{any_mem, any_of, map_mem, mem_map}
@@ -147,7 +148,7 @@ module _ (c m : ℕ) (raw K : List ℕ) (N : Known c m raw K) (k p : ℕ) (ranks
 
   -- i is where an add of key k would land, and this is found there
   module _ (i : ℕ) (lands : i ≡ landing (aim p ADD k) L) where
-    abbrev found : Sight
+    abbrev found : Option Sight
     found = look_of (drop i L)
 
     later : (d : Edit) → Mem d (drop i L) → before d (aim p ADD k) ≡ false
@@ -169,24 +170,24 @@ module _ (c m : ℕ) (raw K : List ℕ) (N : Known c m raw K) (k p : ℕ) (ranks
         go (x ∷ R) e P g = (x, R, e, ⊎_elim (λ f. inl f) (λ f. inr (P.0 y f)) (cases_cons g))
 
     -- an add of key k is the first of the others
-    add_first : Adds → found ≡ Add p k
+    add_first : Adds → found ≡ Some (Add p k)
     add_first a =
         let y = at a.0 (add a.1) in
         let same : (x : Edit) → before x (aim p ADD k) ≡ before x y =
         λ x. aim_add x p k a.1 a.3 ∙ ap (λ (n : ℕ). before x (at n (add a.1))) (sym (add_stands a)) in
         let w = first_or y a.2 (same y ∙ not_passed (before y y) (λ g. before_asym y y g g)) in
         ⊎_elim
-        (λ g. ap look_of (w.2 ∙ ap (λ (d : Edit). d ∷ w.1) (sym g)) ∙ (λ z. Add (add_stands a z) (a.3 z)))
+        (λ g. ap look_of (w.2 ∙ ap (λ (d : Edit). d ∷ w.1) (sym g)) ∙ (λ z. Some (Add (add_stands a z) (a.3 z))))
         (λ g. absurd (true≢false (sym (same w.0 ∙ g) ∙ later w.0 (rw w.2 (here refl)))))
         w.3
 
-    add_there : (v : ℕ) → found ≡ Add p v → (r : Row) × Mem (at p (add r)) L × (key r ≡ v)
+    add_there : (v : ℕ) → found ≡ Some (Add p v) → (r : Row) × Mem (at p (add r)) L × (key r ≡ v)
     add_there v e =
         let w = look_add L i p v e in
         (w.0, drop_mem i L (at p (add w.0)) (rw w.1.split (here refl)), w.2)
 
     -- the strike of row p stands there, or an add at p
-    strike_first : struck p L ≡ true → ((l : ℕ) × (found ≡ Strike p l)) ⊎ ((v : ℕ) × (found ≡ Add p v))
+    strike_first : struck p L ≡ true → ((l : ℕ) × (found ≡ Some (Strike p l))) ⊎ ((v : ℕ) × (found ≡ Some (Add p v)))
     strike_first h =
         let s = of_struck p L h in
         let w = first_or (at p (strike s.0)) s.1 (comes s.0) in
@@ -199,25 +200,26 @@ module _ (c m : ℕ) (raw K : List ℕ) (N : Known c m raw K) (k p : ℕ) (ranks
             (λ h. ⊎_elim (λ g. omega arith) (λ g. true≢false (sym g.1))
             (before_cases p p (strike l) (add (k ∷ [])) h))
 
-        level : (t : ℕ) (d : Deed) (R : Layer) → drop i L ≡ at t d ∷ R → (l : ℕ) → t ≡ p → deed_before d (strike l) ≡ true
-            → (v : ℕ) × (found ≡ Add p v)
-        level t (add r) R e l q g = (key r, ap look_of e ∙ ap (λ (n : ℕ). Add n (key r)) q)
+        level : (t : ℕ) (d : Deed) (R : Layer) → drop i L ≡ at t d ∷ R → (l : ℕ) → t ≡ p
+            → deed_before d (strike l) ≡ true
+            → (v : ℕ) × (found ≡ Some (Add p v))
+        level t (add r) R e l q g = (key r, ap look_of e ∙ ap (λ (n : ℕ). Some (Add n (key r))) q)
         level t (strike y) R e l q g = absurd (true≢false (sym g))
         level t (change j y) R e l q g = absurd (true≢false (sym g))
 
         before_strike : (x : Edit) (R : Layer) → drop i L ≡ x ∷ R → (l : ℕ) → before x (at p (strike l)) ≡ true
-            → (v : ℕ) × (found ≡ Add p v)
+            → (v : ℕ) × (found ≡ Some (Add p v))
         before_strike (at t d) R e l h =
             ⊎_elim
             (λ g. absurd (true≢false (sym (before_lt (at t d) (aim p ADD k) g) ∙ later (at t d) (rw e (here refl)))))
             (λ g. level t d R e l g.0 g.1) (before_cases t p d (strike l) h)
 
-    struck_there : (l : ℕ) → found ≡ Strike p l → struck p L ≡ true
+    struck_there : (l : ℕ) → found ≡ Some (Strike p l) → struck p L ≡ true
     struck_there l e =
         struck_of p l L (drop_mem i L (at p (strike l)) (rw (look_strike L i p l e).split (here refl)))
 
     -- where base row p has the key, an add at p has it too
-    base_add : base ≡ true → (v : ℕ) → found ≡ Add p v → v ≡ k
+    base_add : base ≡ true → (v : ℕ) → found ≡ Some (Add p v) → v ≡ k
     base_add b v e =
         let w = look_add L i p v e in
         let n : Mem (at p (add w.0)) (drop i L) = rw w.1.split (here refl) in
@@ -243,22 +245,22 @@ module _ (c m : ℕ) (raw K : List ℕ) (N : Known c m raw K) (k p : ℕ) (ranks
         go q f g s false h false h' r = omega (arith, ltb-false v k h, ltb-false k v h')
 
     -- no strike and no add stands there: the base row decides
-    unstruck : ((l : ℕ) → found ≡ Strike p l → ⊥) → ((v : ℕ) → found ≡ Add p v → ⊥) → struck p L ≡ false
+    unstruck : ((l : ℕ) → found ≡ Some (Strike p l) → ⊥) → ((v : ℕ) → found ≡ Some (Add p v) → ⊥) → struck p L ≡ false
     unstruck kept none =
         not_passed (struck p L) (λ h. ⊎_elim (λ w. kept w.0 w.1) (λ w. none w.0 w.1) (strike_first h))
 
-    pub shown_add : (s v : ℕ) → found ≡ Add s v → (base || (eqb s p && eqb v k)) ≡ shows
+    pub shown_add : (s v : ℕ) → found ≡ Some (Add s v) → (base || (eqb s p && eqb v k)) ≡ shows
     shown_add s v e = same_test (base || (eqb s p && eqb v k)) shows there back
       where
         both : s ≡ p → v ≡ k → shows ≡ true
-        both f g = let w = add_there k (e ∙ (λ y. Add (f y) (g y))) in by_add (p, w.0, w.1, w.2)
+        both f g = let w = add_there k (e ∙ (λ y. Some (Add (f y) (g y)))) in by_add (p, w.0, w.1, w.2)
 
         own : base ≡ true → (t : Bool) → struck p L ≡ t → shows ≡ true
         own b false u = by_base b u
         own b true u =
-            ⊎_elim (λ w. impossible (let z : Add s v ≡ Strike p w.0 = sym e ∙ w.1 in cc))
+            ⊎_elim (λ w. impossible (let z : Some (Add s v) ≡ Some (Strike p w.0) = sym e ∙ w.1 in cc))
             (λ w.
-            let z : Add s v ≡ Add p w.0 = sym e ∙ w.1 in
+            let z : Some (Add s v) ≡ Some (Add p w.0) = sym e ∙ w.1 in
             both (cc) (let y : v ≡ w.0 = cc in y ∙ base_add b w.0 w.1)) (strike_first u)
 
         there : (base || (eqb s p && eqb v k)) ≡ true → shows ≡ true
@@ -271,29 +273,31 @@ module _ (c m : ℕ) (raw K : List ℕ) (N : Known c m raw K) (k p : ℕ) (ranks
         back h =
             ⊎_elim
             (λ a.
-            let z : Add s v ≡ Add p k = sym e ∙ add_first a in
+            let z : Some (Add s v) ≡ Some (Add p k) = sym e ∙ add_first a in
             or_r base (eqb s p && eqb v k)
             (and_of (eqb s p) (eqb v k) (eq-eqb s p (cc)) (eq-eqb v k (cc))))
             (λ w. or_l base (eqb s p && eqb v k) w.0) (shown_by h)
 
-    pub shown_strike : (s l : ℕ) → found ≡ Strike s l → (base && not (eqb s p)) ≡ shows
+    pub shown_strike : (s l : ℕ) → found ≡ Some (Strike s l) → (base && not (eqb s p)) ≡ shows
     shown_strike s l e = same_test (base && not (eqb s p)) shows there back
       where
         there : (base && not (eqb s p)) ≡ true → shows ≡ true
         there h =
             let n : s ≡ p → ⊥ = eqb-false s p (not-true (eqb s p) (and_r base (not (eqb s p)) h)) in
             by_base (and_l base (not (eqb s p)) h) (unstruck
-            (λ x f. n (let z : Strike s l ≡ Strike p x = sym e ∙ f in cc))
-            (λ v f. impossible (let z : Strike s l ≡ Add p v = sym e ∙ f in cc)))
+            (λ x f. n (let z : Some (Strike s l) ≡ Some (Strike p x) = sym e ∙ f in cc))
+            (λ v f. impossible (let z : Some (Strike s l) ≡ Some (Add p v) = sym e ∙ f in cc)))
 
         back : shows ≡ true → (base && not (eqb s p)) ≡ true
         back h =
-            ⊎_elim (λ a. impossible (let z : Strike s l ≡ Add p k = sym e ∙ add_first a in cc))
+            ⊎_elim (λ a. impossible (let z : Some (Strike s l) ≡ Some (Add p k) = sym e ∙ add_first a in cc))
             (λ w. and_of base (not (eqb s p)) w.0 (ap not (ne_eqb s p
-            (λ f. true≢false (sym (struck_there l (e ∙ ap (λ (n : ℕ). Strike n l) f)) ∙ w.1)))))
+            (λ f. true≢false (sym (struck_there l (e ∙ ap (λ (n : ℕ). Some (Strike n l)) f)) ∙ w.1)))))
             (shown_by h)
 
     pub shown_base : has_key found ≡ false → base ≡ shows
     shown_base h = same_test base shows
-        (λ b. by_base b (unstruck (λ l e. true≢false (sym (ap has_key e) ∙ h)) (λ v e. true≢false (sym (ap has_key e) ∙ h))))
+        (λ b.
+        by_base b
+        (unstruck (λ l e. true≢false (sym (ap has_key e) ∙ h)) (λ v e. true≢false (sym (ap has_key e) ∙ h))))
         (λ g. ⊎_elim (λ a. absurd (true≢false (sym (ap has_key (add_first a)) ∙ h))) (λ w. w.0) (shown_by g))

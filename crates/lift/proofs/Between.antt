@@ -1,7 +1,6 @@
 -- The changes of a base row: the entries from where its strike lands up to the first entry past the row, and no others.
 -- Assumes nothing.
-use Prim.Native.Nat.{ℕ, ◌+◌, ◌-◌, ◌*◌, ◌≤◌}
-use native.Mathlib.Nat.{mul-le-mul_right}
+use Prim.Native.Nat.{ℕ, ◌+◌, ◌-◌, ◌≤◌}
 use native.Mathlib.Omega.{arith}
 use mathlib.Core.Path.{◌≡◌, refl, sym, ap, ◌∙◌}
 use mathlib.Core.Logic.{inr, ⊎_elim}
@@ -11,16 +10,9 @@ use mathlib.Core.List.Memᴰ.{append_left}
 use mathlib.Core.List.Memᴰ.{append_right}
 use mathlib.Core.List.Memᴰ.{head as here}
 use mathlib.Core.List.Memᴰ.{tail as next}
-use mathlib.Core.List.{
-  List,
-  ◌∷◌,
-  ◌++◌,
-  map,
-  map-append,
-  Memᴰ as Mem,
-}
+use mathlib.Core.List.{List, ◌∷◌, ◌++◌, Memᴰ as Mem}
 use lib.ListN.{length, get_or, take, drop, take-append-drop}
-use lib.Seq.{take_at, take-take}
+use lib.Seq.{take-take}
 use lib.Dec.{eqb, ltb, leb}
 use borrow.Author.Tests.{not-true}
 use Rattle.words.specs.declared.Origin.TheVariants.{Base as base}
@@ -34,10 +26,9 @@ use Rattle.order.proofs.Gather.{turn_append}
 use Rattle.words.specs.Entry.{ADD, STRIKE}
 use Rattle.model.specs.Row.{Row}
 use Rattle.model.specs.Layer.{Edit, at, add, strike, change, Layer, struck, changes_row, change_row, changed}
-use Rattle.model.specs.Raw.{Held, entries_at, edit_of, layer_of}
+use Rattle.model.specs.Raw.{layer_of}
 use Rattle.model.specs.Form.{sound}
 use Rattle.model.specs.Edits.{before, strike_base}
-use Rattle.theory.proofs.Raw.{entries_add, layer_length}
 use Rattle.theory.proofs.Layer.{struck_of}
 use Rattle.landing.specs.Landing.{aim, landing}
 use Rattle.landing.proofs.Landed.{landing_le, lands_after, lands_first}
@@ -46,15 +37,6 @@ use Rattle.splice.specs.declared.Splice.{Splice}
 use Rattle.plan.specs.Moves.{strike_splice}
 use Rattle.plan.proofs.Struck.{in_turn_lem, strike_splice_lem}
 use Rattle.lift.specs.Own.{own_change}
-
--- the first entries of a layer
-layer_front : (c end m : ℕ) (xs : List ℕ) → end ≤ m → layer_of c end xs ≡ take end (layer_of c m xs)
-unfolding layer_of
-layer_front c end m xs l =
-    let e : m ≡ end + (m - end) = omega arith in
-    let es = entries_at c (m - end) (0 + end * (c + 2)) xs in
-    sym (rw (e, entries_add c end (m - end) 0 xs, map-append edit_of (entries_at c end 0 xs) es)
-    (take_at (map edit_of (entries_at c end 0 xs)) (map edit_of es) end (layer_length c end xs)))
 
 -- an edit that does not change the row leaves it, and a sound one that does sets a column below c
 idle : (s : ℕ) (d : Edit) (row : Row) → changes_row s d ≡ false → change_row s d row ≡ row
@@ -144,7 +126,8 @@ module _ (K : List ℕ) (s : ℕ) (L : Layer) (sorted : AllPairs before L) (u : 
       ∙ (turn_append (change_row s) (A ++ G) B row
       ∙ (turn_idle (change_row s) B row' (λ d m. idle s d row' (apart d (append_right A (next m))))
       ∙ (turn_append (change_row s) A G row
-      ∙ ap (changed s G) (turn_idle (change_row s) A row (λ d m. idle s d row (apart d (append_left (strikes ∷ B) m))))))))
+      ∙ ap (changed s G)
+      (turn_idle (change_row s) A row (λ d m. idle s d row (apart d (append_left (strikes ∷ B) m))))))))
 
 -- The splice that strikes base row s: the entries that go are the row's changes.
 module _ {c m : ℕ} {raw K : List ℕ} (N : Known c m raw K) (s : ℕ) (u : struck s (layer_of c m raw) ≡ false) (p : Splice)
@@ -165,27 +148,13 @@ module _ {c m : ℕ} {raw K : List ℕ} (N : Known c m raw K) (s : ℕ) (u : str
       omega (arith, begins, ap (λ (x : Splice). x.gone) e, t)
 
   -- they are entries of the layer
-  pub gone_held : (end ≤ m) × Held c end raw
-  gone_held =
-      let H = N.acc.held in
-      let l : end ≤ m = omega (arith, ends, landing_le (aim (s + 1) ADD 0) L, N.acc.size) in (
-        l,
-        record {
-          some = H.some;
-          columns = H.columns;
-          entries = omega (arith, l, H.entries);
-          room = omega (arith, mul-le-mul_right {m = end} (c + 2) l, H.room);
-        },
-      )
+  pub gone_below : end ≤ m
+  gone_below = omega (arith, ends, landing_le (aim (s + 1) ADD 0) L, N.acc.size)
 
   -- each of them changes the row, in a column below c
-  pub gone_own : all (own_change c s) (drop p.i (layer_of c end raw)) ≡ true
-  gone_own =
-      rw (layer_front c end m raw gone_held.0)
-      (own_between K s L N.good.fit.sorted u p.i end begins ends c (length K) N.acc.each)
+  pub gone_own : all (own_change c s) (drop p.i (take end L)) ≡ true
+  gone_own = own_between K s L N.good.fit.sorted u p.i end begins ends c (length K) N.acc.each
 
   -- and they are all of its changes
-  pub gone_all : (row : Row) → changed s (drop p.i (layer_of c end raw)) row ≡ changed s L row
-  gone_all row =
-      rw (layer_front c end m raw gone_held.0)
-      (changed_between K s L N.good.fit.sorted u p.i end begins ends row)
+  pub gone_all : (row : Row) → changed s (drop p.i (take end L)) row ≡ changed s L row
+  gone_all row = changed_between K s L N.good.fit.sorted u p.i end begins ends row

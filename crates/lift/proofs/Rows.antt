@@ -1,41 +1,41 @@
 -- A row gathered value by value from a slice, and changes done to a row that has zeros behind it.
 -- Assumes nothing.
-use Prim.Native.Nat.{ℕ, ◌+◌, ◌*◌, ◌-◌, ◌≤◌, ◌<◌}
+use Prim.Native.Nat.{ℕ, suc, ◌+◌, ◌*◌, ◌-◌, ◌≤◌, ◌<◌}
 use native.Mathlib.Nat.{suc-mul}
 use native.Mathlib.Numerals.{add-one}
 use native.Mathlib.Omega.{arith}
 use mathlib.Core.Path.{◌≡◌, refl, sym, ap, ◌∙◌}
 use mathlib.Core.Bool.{Bool, true, false, true≢false}
 use mathlib.Core.List.{List, [], ◌∷◌, ◌++◌}
-use lib.ListN.{length, get_or, drop, set, replicate, length-set}
-use lib.Seq.{paste, set-append_left}
+use lib.ListN.{length, get_or, take, drop, set, replicate, length-set, drop_of_length-le}
+use lib.Seq.{paste, set-append_left, length-take-le}
 use lib.Dec.{eqb, ltb}
 use borrow.Author.Tests.{ltb-true}
 use Rattle.order.specs.Lists.{all}
 use Rattle.order.proofs.Tests.{and_l, and_r}
+use Rattle.order.proofs.Splice.{part}
 use Rattle.words.specs.declared.Entry.{Entry}
 use Rattle.words.specs.Entry.{ADD, STRIKE}
 use Rattle.model.specs.Row.{Row, row_at}
 use Rattle.model.specs.Cell.{to, put}
 use Rattle.model.specs.Layer.{at, add, strike, change, Layer, change_row, changed}
-use Rattle.model.specs.Raw.{entry_at, edit_of, layer_of}
-use Rattle.theory.proofs.Raw.{within}
+use Rattle.model.specs.Raw.{edit_of}
+use Rattle.theory.proofs.Raw.{layer_length}
 use Rattle.theory.proofs.Edits.{deed_by}
 use Rattle.theory.proofs.Layer.{changed_length}
 use Rattle.theory.proofs.Columnwise.{row_length, row_cell}
 use Rattle.run.proofs.Laws.{copy_more}
 use Rattle.head.specs.declared.Head.{Head}
 use Rattle.head.specs.Head.{head_of}
+use Rattle.entry.specs.declared.slice.Stored.{Stored}
+use Rattle.entry.specs.Look.{edits, entry_of}
 use Rattle.entry.proofs.Looks.{left_step}
 use Rattle.plan.specs.Moves.{padded}
 use Rattle.lift.specs.Own.{own_change}
 
 -- Value j of a row whose values lie w numbers apart.
 module _ (c w s j : ℕ) (xs : List ℕ) (h : j < c) where
-  -- it stands within the slice, and the next one w numbers on
-  pub stands_in : (len : ℕ) → c * w + s < len + w → j * w + s < len
-  stands_in len l = omega (arith, within j c w h)
-
+  -- the next one stands w numbers on
   pub next_at : (o : ℕ) → o ≡ j * w + s → o + w ≡ (j + 1) * w + s
   next_at o e = omega (arith, e, suc-mul j w, ap (λ (n : ℕ). n * w) (add-one j))
 
@@ -67,30 +67,48 @@ own_sets c s e = go (eqb e.kind ADD) (eqb e.kind STRIKE)
         let l = ltb e.kind c in
         (ltb-true e.kind c (and_r t l h), λ row. rw (and_l t l h))
 
+-- The edits of a layer up to number `end`: what is left of them from number k on is this edit and what is left after
+-- it.
+module _ (l : Stored) (end k : ℕ) (below : end ≤ l.m) where
+  abbrev F : Layer
+  F = take end (edits l)
+
+  front_step : k < end → drop k F ≡ edit_of (entry_of l k) ∷ drop (k + 1) F
+  front_step h =
+      let n : end - k ≡ suc (end - (k + 1)) = omega arith in
+      sym (part k end (edits l))
+      ∙ ((λ x. take (n x) (left_step l.c l.m k l.numbers.now (omega arith) x))
+      ∙ ap (λ (G : Layer). edit_of (entry_of l k) ∷ G) (part (k + 1) end (edits l)))
+
+  pub front_end : end ≤ k → drop k F ≡ []
+  front_end h =
+      let size = layer_length l.c l.m l.numbers.now in
+      drop_of_length-le F {i = k} (omega (arith, length-take-le end (edits l) (omega (arith, size))))
+
 -- The changes of base row s from entry number k on, done one after the other: h is the head of the first.
-module _ (c s end k : ℕ) (xs : List ℕ) (h : Head) (e : h ≡ head_of (entry_at c (k * (c + 2)) xs)) (l : k < end)
-    (own : all (own_change c s) (drop k (layer_of c end xs)) ≡ true) where
+module _ (l : Stored) (s end k : ℕ) (below : end ≤ l.m) (h : Head) (e : h ≡ head_of (entry_of l k)) (g : k < end)
+    (own : all (own_change l.c s) (drop k (take end (edits l))) ≡ true) where
   abbrev d : Entry
-  d = entry_at c (k * (c + 2)) xs
+  d = entry_of l k
 
   abbrev rest : Layer
-  rest = drop (k + 1) (layer_of c end xs)
+  rest = drop (k + 1) (take end (edits l))
 
-  both : (own_change c s (edit_of d) ≡ true) × (all (own_change c s) rest ≡ true)
+  both : (own_change l.c s (edit_of d) ≡ true) × (all (own_change l.c s) rest ≡ true)
   both =
-      let t = rw (left_step c end k xs l) at own in
-      (and_l (own_change c s (edit_of d)) _ t, and_r (own_change c s (edit_of d)) _ t)
+      let t = rw (front_step l end k below g) at own in
+      (and_l (own_change l.c s (edit_of d)) _ t, and_r (own_change l.c s (edit_of d)) _ t)
 
   -- it sets a value below c
-  pub change_column : h.kind < c
-  change_column = rw e (own_sets c s d both.0).0
+  pub change_column : h.kind < l.c
+  change_column = rw e (own_sets l.c s d both.0).0
 
   -- and the others are left
-  pub change_step : (row done : Row) → changed s (drop k (layer_of c end xs)) row ≡ done
-      → (all (own_change c s) rest ≡ true) × (changed s rest (set row h.kind h.first) ≡ done)
+  pub change_step : (row done : Row) → changed s (drop k (take end (edits l))) row ≡ done
+      → (all (own_change l.c s) rest ≡ true) × (changed s rest (set row h.kind h.first) ≡ done)
   change_step row done f =
-      let g = (own_sets c s d both.0).1 row in
-      (both.1, rw e (ap (changed s rest) (sym g) ∙ (rw (left_step c end k xs l) at f)))
+      let w = (own_sets l.c s d both.0).1 row in
+      (both.1, rw e (ap (changed s rest) (sym w) ∙ (rw (front_step l end k below g) at f)))
 
 -- changes of columns below c leave what stands behind the row's c values
 behind_kept : (c s : ℕ) (G : Layer) (row Z : Row) → length row ≡ c → all (own_change c s) G ≡ true

@@ -60,7 +60,8 @@ add_vals e p q = go (eqb e.kind ADD) (eqb e.kind STRIKE)
     go false false h = impossible (cc)
 
 -- entry number i of a layer
-edit_at : (c m i : ℕ) (xs : List ℕ) → i < m → get_or (layer_of c m xs) i (edit_of none) ≡ edit_of (entry_at c (i * (c + 2)) xs)
+edit_at : (c m i : ℕ) (xs : List ℕ) → i < m
+    → get_or (layer_of c m xs) i (edit_of none) ≡ edit_of (entry_at c (i * (c + 2)) xs)
 unfolding layer_of
 edit_at c m i xs h =
     get_or-map edit_of (entries_of c m xs) i none
@@ -105,17 +106,18 @@ module _ {c m : ℕ} {raw K : List ℕ} (R : Ready c m raw K) (w : ℕ) (table :
 
     from_origin : shown ≡ origin_row T L (back (length K) L r)
     from_origin =
-        let e : length (read T L) ≡ rows_after (length K) L = read_length T L fits_in ∙ ap (λ (n : ℕ). rows_after n L) rows in
+        let e : length (read T L) ≡ rows_after (length K) L =
+        read_length T L fits_in ∙ ap (λ (n : ℕ). rows_after n L) rows in
         (back_row T L r shown (get_or_at (read T L) r [] (omega (arith, e)))).row
         ∙ ap (λ (n : ℕ). origin_row T L (back n L r)) rows
 
     -- behind it is base row s: the row with its changes, which are the entries that go
     pub base_taken_lem : (s : ℕ) → (back (length K) L r ≡ base s) × (s < length K) × (struck s L ≡ false)
         → (p : Splice) (row : List ℕ) → p ≡ strike_splice K L (base s)
-        → row ≡ padded (changed s (drop p.i (layer_of c (p.i + p.gone) raw)) (row_at c w table s))
+        → row ≡ padded (changed s (drop p.i (take (p.i + p.gone) L)) (row_at c w table s))
         → (p ≡ strike_splice K L (back (length K) L r)) × (row ≡ padded shown)
     base_taken_lem s o p row e f =
-        let q : shown ≡ changed s (drop p.i (layer_of c (p.i + p.gone) raw)) (row_at c w table s) =
+        let q : shown ≡ changed s (drop p.i (take (p.i + p.gone) L)) (row_at c w table s) =
         from_origin ∙ (ap (origin_row T L) o.0 ∙ (ap (changed s L) (columnwise_row c (length K) w table s o.1)
         ∙ sym (gone_all N s o.2 p e (row_at c w table s)))) in
         (e ∙ ap (strike_splice K L) (sym o.0), f ∙ ap padded (sym q))

@@ -5,13 +5,14 @@ ghost use Rattle.std.specs.Prelude.{◌≡◌, true, [], ◌+◌, ◌*◌, ◌�
 ghost use Rattle.order.specs.Lists.{all};
 ghost use Rattle.model.specs.Row.{row_at, columnwise};
 ghost use Rattle.model.specs.Layer.{changed, rows_after};
-ghost use Rattle.model.specs.Raw.{Held, layer_of};
+ghost use Rattle.entry.specs.Look.{edits};
 ghost use Rattle.model.specs.Read.{read};
 ghost use Rattle.model.specs.Position.{back};
-ghost use Rattle.fit.specs.Ready.{Ready};
+ghost use Rattle.fit.specs.Ready.{Fitting};
 ghost use Rattle.plan.specs.Moves.{padded, strike_splice};
 ghost use Rattle.lift.specs.Own.{own_change};
 
+use entry::Stored;
 use splice::Splice;
 use words::Origin;
 
@@ -30,23 +31,16 @@ fn row_at(c: usize, w: usize, xs: &[u64], s: usize) -> [u64; 8]
 }
 
 // Base row s with its changes, which are the entries from number i up to `end`.
-fn shown_row(
-    c: usize,
-    w: usize,
-    table: &[u64],
-    s: usize,
-    layer: &[u64],
-    i: usize,
-    end: usize,
-) -> [u64; 8]
-    requires { Held c end layer.now × (w ≤ length table.now) × (c * w + s < length table.now + w)
-        × (all (own_change c s) (drop i (layer_of c end layer.now)) ≡ true) }
-    ensures { let own = drop i (layer_of c end layer.now) in
-        result ≡ padded (changed s own (row_at c w table.now s)) }
+fn shown_row(w: usize, table: &[u64], s: usize, layer: &Stored, i: usize, end: usize) -> [u64; 8]
+    requires { let c = layer.now.c in
+        (end ≤ layer.now.m) × (w ≤ length table.now) × (c * w + s < length table.now + w)
+        × (all (own_change c s) (drop i (take end (edits layer.now))) ≡ true) }
+    ensures { let own = drop i (take end (edits layer.now)) in
+        result ≡ padded (changed s own (row_at layer.now.c w table.now s)) }
 {
-    let mut row = row_at(c, w, table, s);
+    let mut row = row_at(layer.c, w, table, s);
     for k in i..end {
-        let h = entry::head_at(c, k * (c + 2), layer);
+        let h = layer.head(k);
         let j = h.kind as usize;
         row[j] = h.first;
     }
@@ -60,34 +54,26 @@ pub struct Lifted {
     pub row: [u64; 8],
 }
 
-// Takes row number r, which is shown, out of a layer over the table whose c columns start w numbers apart; the keys are its
-// first.
-pub fn lift(
-    c: usize,
-    w: usize,
-    m: usize,
-    layer: &[u64],
-    keys: &[u64],
-    table: &[u64],
-    r: usize,
-) -> Lifted
-    requires { let K = keys.now in Ready c m layer.now K × (r < rows_after (length K) (layer_of c m layer.now))
-        × (K ≡ take (length K) table.now) × (length K ≤ w) × (c * w ≤ length table.now) }
-    ensures { let K = keys.now in let L = layer_of c m layer.now in
-        let T = columnwise c (length K) w table.now in
+// Takes row number r, which is shown, out of a layer over the table whose c columns start w numbers apart; the keys are
+// its first.
+pub fn lift(w: usize, layer: &Stored, keys: &[u64], table: &[u64], r: usize) -> Lifted
+    requires { let K = keys.now in Fitting layer.now K × (r < rows_after (length K) (edits layer.now))
+        × (K ≡ take (length K) table.now) × (length K ≤ w) × (layer.now.c * w ≤ length table.now) }
+    ensures { let K = keys.now in let L = edits layer.now in
+        let T = columnwise layer.now.c (length K) w table.now in
         (result.splice ≡ strike_splice K L (back (length K) L r)) × (result.row ≡ padded (get_or (read T L) r [])) }
 {
-    match mark::origin_of(c, keys.len(), m, layer, r) {
+    match mark::origin_of(layer, keys.len(), r) {
         Origin::Base(s) => {
-            let splice = plan::strike_base(c, m, layer, keys, s);
+            let splice = plan::strike_base(layer, keys, s);
             let i = splice.i;
             let end = i + splice.gone;
-            let row = shown_row(c, w, table, s, layer, i, end);
+            let row = shown_row(w, table, s, layer, i, end);
             Lifted { splice, row }
         }
         Origin::Added(i) => {
             let splice = plan::out(i);
-            let row = row_at(c, 1, layer, i * (c + 2) + 2);
+            let row = row_at(layer.c, 1, layer.numbers, i * (layer.c + 2) + 2);
             Lifted { splice, row }
         }
     }

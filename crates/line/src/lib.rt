@@ -18,7 +18,7 @@ pub enum Line {
     Renumber(u64, u64),
 }
 
-// What the sign says of one number.
+// What the sign, a line's first byte as it was read, says of one number.
 fn one(sign: u8, r: u64) -> Option<Line>
     ensures { result ≡ said (sign ∷ []) (r ∷ []) }
 {

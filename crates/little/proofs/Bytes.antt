@@ -6,7 +6,13 @@ use mathlib.Core.Path.{◌≡◌, sym, ap}
 use mathlib.Core.List.{List, [], ◌∷◌}
 use lib.ListN.{length, get_or, take, drop}
 use lib.Seq.{drop-cons}
+use Rattle.std.specs.Int.{w64, from_le_bytes}
 use Rattle.little.specs.Little.{number, number_at}
+
+-- the library's number of eight bytes is ours
+pub from_bytes : (a b c d e f g h : ℕ) → from_le_bytes w64 (a ∷ b ∷ c ∷ d ∷ e ∷ f ∷ g ∷ h ∷ [])
+    ≡ number (a ∷ b ∷ c ∷ d ∷ e ∷ f ∷ g ∷ h ∷ [])
+from_bytes a b c d e f g h = omega arith
 
 module _ (l : List ℕ) (at : ℕ) (r : at + 8 ≤ length l) where
   -- the eight bytes from `at` on

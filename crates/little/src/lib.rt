@@ -1,35 +1,15 @@
 // Numbers as eight bytes, little end first: read from bytes.
 #![tactic(auto)]
 
-ghost use Rattle.std.specs.Prelude.{◌≡◌, [], ◌∷◌, ◌++◌, ◌+◌, ◌*◌, ◌≤◌, ◌<◌, length, drop};
-ghost use Rattle.little.specs.Little.{number, number_at, numbers_at};
-
-fn wide(b: u8) -> u64
-    ensures { (result ≡ b) × (result < 256) }
-{
-    b as u64
-}
-
-// The number that eight bytes are.
-fn joined(a: u8, b: u8, c: u8, d: u8, e: u8, f: u8, g: u8, h: u8) -> u64
-    ensures { result ≡ number (a ∷ b ∷ c ∷ d ∷ e ∷ f ∷ g ∷ h ∷ []) }
-{
-    wide(a)
-        + wide(b) * 256
-        + wide(c) * 65536
-        + wide(d) * 16777216
-        + wide(e) * 4294967296
-        + wide(f) * 1099511627776
-        + wide(g) * 281474976710656
-        + wide(h) * 72057594037927936
-}
+ghost use Rattle.std.specs.Prelude.{◌≡◌, ◌++◌, ◌+◌, ◌*◌, ◌≤◌, length, drop};
+ghost use Rattle.little.specs.Little.{number_at, numbers_at};
 
 // The number whose first byte is byte `at`; the compiler joins the eight bytes to one load.
 pub fn number_at(file: &[u8], at: usize) -> u64
     requires { at + 8 ≤ length file.now }
     ensures { result ≡ number_at at file.now }
 {
-    joined(
+    u64::from_le_bytes([
         file[at],
         file[at + 1],
         file[at + 2],
@@ -38,7 +18,7 @@ pub fn number_at(file: &[u8], at: usize) -> u64
         file[at + 5],
         file[at + 6],
         file[at + 7],
-    )
+    ])
 }
 
 // Reads the k numbers from byte `at` on into the front of out.

@@ -1,3 +1,2 @@
 pub mod Walk
 pub mod Marking
-pub mod Ways

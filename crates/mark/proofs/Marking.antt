@@ -2,7 +2,6 @@
 -- the way stops it tells what stands there.
 -- Assumes nothing.
 use Prim.Native.Nat.{ℕ, suc, ◌+◌, ◌-◌, ◌≤◌, ◌<◌}
-use native.Mathlib.Nat.{zero-mul}
 use native.Mathlib.Numerals.{add-one}
 use native.Mathlib.Omega.{arith}
 use mathlib.Core.Path.{◌≡◌, refl, sym, ap, subst, ◌∙◌}
@@ -18,12 +17,13 @@ use Rattle.model.specs.Cell.{to}
 use Rattle.model.specs.Row.{key}
 use Rattle.model.specs.Layer.{at, add, strike, change, Edit, Layer}
 use Rattle.theory.proofs.Origin.{added_row}
-use Rattle.entry.specs.Look.{look_of}
-use Rattle.entry.proofs.Looks.{after_placed}
+use Rattle.theory.proofs.Raw.{layer_length}
+use Rattle.entry.specs.declared.slice.Stored.{Stored}
+use Rattle.entry.specs.Look.{look_of, edits}
 use Rattle.mark.specs.declared.Mark.{Mark}
 use Rattle.mark.specs.declared.Way.{Way}
 use Rattle.mark.specs.declared.Way.TheVariants.{Before, Own, On}
-use Rattle.mark.specs.Walk.{origin_from, way_by, way_at, fresh, later, toward, past, Marks}
+use Rattle.mark.specs.Walk.{origin_from, way_by, way_at, fresh, later, toward, past, Stays, Marks}
 
 -- the way goes on past the first edit, from t to u
 pub record Passed (i : ℕ) (M : Layer) (t u : ℕ) : Type 0 where
@@ -77,28 +77,27 @@ told i (at p (change j (to v)) ∷ M) t = go (ltb t p) refl
         let far : p ≤ t = ltb-false t p f in
         record { some = omega arith; most = omega arith; same = λ d. rw (le-ltb (t + d) p (omega arith)) }
 
+-- a way that is none past an entry stays
+pub stays : (w : Way) → ((u : ℕ) → w ≡ On u → ⊥) → Stays w
+stays Before h = tt
+stays (Own k) h = tt
+stays (On u) h = h u refl
+
 -- nothing is passed: any row is found from the first entry on
-pub from_first : (c row : ℕ) (L : Layer) → Marks c L (fresh row)
-from_first c row L = record {
-  within = omega arith;
-  placed = sym (zero-mul (c + 2));
-  near = omega arith;
-  finds = λ d. refl;
-}
+pub from_first : (row : ℕ) (L : Layer) → Marks L (fresh row)
+from_first row L = record { within = omega arith; near = omega arith; finds = λ d. refl }
 
 -- a mark on the way to another row
-pub set_off : {c : ℕ} {L : Layer} {k : Mark} (row : ℕ) → Marks c L k
-    → Marks c L (toward k row) × ((toward k row).row ≡ row)
-set_off {c} {L} {k} row g = go (ltb row k.row) refl
+pub set_off : {L : Layer} {k : Mark} (row : ℕ) → Marks L k → Marks L (toward k row) × ((toward k row).row ≡ row)
+set_off {L} {k} row g = go (ltb row k.row) refl
   where
     go : (b : Bool) → ltb row k.row ≡ b →
         let o = cond b (fresh row) (later k row) in
-        Marks c L o × (o.row ≡ row)
-    go true f = (from_first c row L, refl)
+        Marks L o × (o.row ≡ row)
+    go true f = (from_first row L, refl)
     go false f = let h : k.row ≤ row = ltb-false row k.row f in (
       record {
         within = g.within;
-        placed = g.placed;
         near = omega (arith, g.near);
         finds = λ d.
             let n : row + d ≡ k.row + (row - k.row + d) = omega arith in
@@ -109,7 +108,7 @@ set_off {c} {L} {k} row g = go (ltb row k.row) refl
       refl,
     )
 
-module _ {c : ℕ} {L : Layer} {k : Mark} (g : Marks c L k) where
+module _ {L : Layer} {k : Mark} (g : Marks L k) where
   abbrev left : Layer
   left = drop k.i L
 
@@ -121,10 +120,9 @@ module _ {c : ℕ} {L : Layer} {k : Mark} (g : Marks c L k) where
     pub some_left : k.i < length L
     some_left = omega (arith, over.some, length-drop k.i L)
 
-    pub goes : Marks c L (past c k u)
+    pub goes : Marks L (past k u)
     goes = record {
       within = omega (arith, some_left);
-      placed = after_placed c (record { i = k.i; at = k.at }) g.placed;
       near = omega (arith, g.near, over.most);
       finds = λ d. g.finds d ∙ (over.same d
           ∙ (ap (origin_from (suc k.i) (u + d)) (drop-drop 1 k.i L)
@@ -150,3 +148,11 @@ module _ {c : ℕ} {L : Layer} {k : Mark} (g : Marks c L k) where
         ap (λ (x : Edit). key (added_row x)) (ap (λ (n : ℕ). get_or L n (at 0 (add []))) (sym e)
             ∙ sym (get_or-drop k.i L 0 (at 0 (add [])))) ∙ w.1,
       )
+
+-- the marks of a stored layer: the base row is near the row, and an entry that is passed is one of the layer's
+module _ (l : Stored) {k : Mark} (g : Marks (edits l) k) where
+  pub few_off : k.t ≤ k.row + 512
+  few_off = omega (arith, g.near, g.within, layer_length l.c l.m l.numbers.now, l.held.entries)
+
+  pub one_left : (u : ℕ) → way_at (edits l) k ≡ On u → k.i < l.m
+  one_left u h = omega (arith, some_left g u h, layer_length l.c l.m l.numbers.now)

@@ -3,15 +3,16 @@
 use mathlib.Core.Path.{◌≡◌}
 use mathlib.Core.Bool.{Bool, true, false, cond}
 use mathlib.Core.List.{[], ◌∷◌}
-use Prim.Native.Nat.{ℕ, suc, ◌+◌, ◌-◌, ◌≤◌}
+use Prim.Native.Nat.{ℕ, suc, ◌+◌, ◌≤◌}
 use native.Mathlib.Omega.{arith}
 use lib.ListN.{length, drop, drop_of_length-le}
 use lib.Dec.{eqb}
 use borrow.Author.Tests.{eq-eqb, ne_eqb}
 use Rattle.model.specs.Layer.{add, strike, change, at, Layer}
-use Rattle.entry.specs.declared.Sight.TheVariants.{End, Add, Strike, Change}
+use Rattle.entry.specs.declared.Sight.TheVariants.{Change}
 use Rattle.entry.specs.Look.{look_of}
-use Rattle.entry.proofs.Looks.{look_end, look_add, look_strike, look_change}
+use Rattle.entry.proofs.Looks.{look_change}
+use Rattle.std.specs.Prelude.{Some}
 use Rattle.woven.specs.Woven.{changes_ahead}
 
 pub ahead_upto : (p : ℕ) (U : Layer) → changes_ahead p U ≤ length U
@@ -26,16 +27,10 @@ ahead_upto p (at s (change j e) ∷ U) = by (eqb s p) (ahead_upto p U)
 
 -- from entry number i on, by what a look finds there
 module _ (p : ℕ) (L : Layer) (i : ℕ) where
-  pub ahead_end : look_of (drop i L) ≡ End → changes_ahead p (drop i L) ≡ 0
-  ahead_end h = rw (drop_of_length-le L {i = i} (look_end L i h))
+  pub ahead_end : length L ≤ i → changes_ahead p (drop i L) ≡ 0
+  ahead_end h = rw (drop_of_length-le L {i = i} h)
 
-  pub ahead_add : (s k : ℕ) → look_of (drop i L) ≡ Add s k → changes_ahead p (drop i L) ≡ 0
-  ahead_add s k h = rw (look_add L i s k h).1.split
-
-  pub ahead_strike : (s k : ℕ) → look_of (drop i L) ≡ Strike s k → changes_ahead p (drop i L) ≡ 0
-  ahead_strike s k h = rw (look_strike L i s k h).split
-
-  module _ (s j v : ℕ) (h : look_of (drop i L) ≡ Change s j v) where
+  module _ (s j v : ℕ) (h : look_of (drop i L) ≡ Some (Change s j v)) where
     pub ahead_other : (s ≡ p → ⊥) → changes_ahead p (drop i L) ≡ 0
     ahead_other n = rw ((look_change L i s j v h).split, ne_eqb s p n)
 

@@ -1,12 +1,12 @@
 // What the next entries of two layers make of each other: by the keys that they concern, then by their kinds.
 #![tactic(auto)]
 
-ghost use Rattle.std.specs.Prelude.{◌≡◌, ◌+◌, ◌*◌, ◌≤◌, length, drop};
-ghost use Rattle.model.specs.Raw.{Held, layer_of};
+ghost use Rattle.std.specs.Prelude.{◌≡◌, ◌≤◌, length, drop};
+ghost use Rattle.entry.specs.Look.{edits};
 ghost use Rattle.woven.specs.Woven.{meet_kinds, changes_ahead};
 ghost use Rattle.meet.specs.Meet.{key_in, Keyed, meets_by};
 
-use entry::{Cursor, Sight};
+use entry::{Sight, Stored};
 use head::Head;
 use words::Entry;
 use woven::Meets;
@@ -61,30 +61,16 @@ pub fn meets(lower: Head, a: u64, upper: Head, b: u64) -> Meets
     meeting(lower.kind, upper.kind)
 }
 
-// How many changes at p stand from a cursor on.
-pub fn changes_ahead(c: usize, p: u64, m: usize, w: &[u64], from: Cursor) -> usize
-    requires { Held c m w.now × (from.at ≡ from.i * (c + 2)) × (from.i ≤ m) }
-    ensures { result ≡ changes_ahead p (drop from.i (layer_of c m w.now)) }
+// How many changes at p stand from entry number `from` on.
+pub fn changes_ahead(layer: &Stored, p: u64, from: usize) -> usize
+    requires { from ≤ layer.now.m }
+    ensures { result ≡ changes_ahead p (drop from (edits layer.now)) }
 {
-    let start = from.i;
-    let mut k = from;
-    loop {
-        match entry::look(c, m, w, k) {
-            Sight::Change(s, _, _) => {
-                if s != p {
-                    return k.i - start;
-                }
-                k = k.next(c);
-            }
-            Sight::End => {
-                return k.i - start;
-            }
-            Sight::Add(_, _) => {
-                return k.i - start;
-            }
-            Sight::Strike(_, _) => {
-                return k.i - start;
-            }
+    for i in from..layer.m {
+        match layer.sight(i) {
+            Sight::Change(s, _, _) if s == p => {}
+            _ => return i - from,
         }
     }
+    layer.m - from
 }

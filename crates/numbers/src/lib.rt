@@ -4,72 +4,58 @@
 
 ghost use Rattle.std.specs.Prelude.{◌<◌, ◌≤◌, length};
 
-use std::num::{wrapping_add_u64, wrapping_sub_u64};
-
 // Number i of a slice, or 0 where it has none.
 pub fn get(xs: &[u64], i: usize) -> u64 {
-    if i < xs.len() {
-        return xs[i];
-    }
-    0
+    xs.get(i).copied().unwrap_or(0)
 }
 
-// What stands at an index of a case: nothing to read (0), a number (1), the length of a list (2), the end of one (3);
-// its value, and the index behind it.
+// What stands at an index of a case: nothing to read, a number, the length of a list, the end of one.
 #[derive(Clone, Copy)]
-struct Token {
-    kind: u64,
-    value: u64,
-    end: usize,
+enum Token {
+    Blank,
+    Number(u64),
+    Length(u64),
+    End,
 }
 
 // A number's value with one digit more.
 fn longer(v: u64, b: u8) -> u64 {
-    wrapping_add_u64(wrapping_add_u64(v << 3, v << 1), b as u64 & 15)
+    v.wrapping_mul(10).wrapping_add(u64::from(b & 15))
 }
 
-// The digits from an index on, after some whose value is v.
-fn digits(case: &[u8], from: usize, kind: u64, v: u64) -> Token
+// The value of the digits from an index on, after some whose value is v, and the index behind them.
+fn digits(case: &[u8], from: usize, v: u64) -> (u64, usize)
     requires { from ≤ length case.now }
-    ensures { from ≤ result.end }
+    ensures { from ≤ result.1 }
 {
-    let mut i = from;
     let mut value = v;
-    while i < case.len() {
+    for i in from..case.len() {
         let b = case[i];
-        if (b < 48) | (57 < b) {
-            return Token {
-                kind,
-                value,
-                end: i,
-            };
+        if !b.is_ascii_digit() {
+            return (value, i);
         }
         value = longer(value, b);
-        i += 1;
     }
-    Token {
-        kind,
-        value,
-        end: i,
-    }
+    (value, case.len())
 }
 
-fn token_at(case: &[u8], i: usize) -> Token
+// The token at an index, and the index behind it.
+fn token_at(case: &[u8], i: usize) -> (Token, usize)
     requires { i < length case.now }
-    ensures { i < result.end }
+    ensures { i < result.1 }
 {
     let b = case[i];
-    if (48 <= b) & (b <= 57) {
-        return digits(case, i + 1, 1, longer(0, b));
-    }
-    if b == b'*' {
-        return digits(case, i + 1, 2, 0);
-    }
-    let kind = if b == b';' { 3 } else { 0 };
-    Token {
-        kind,
-        value: 0,
-        end: i + 1,
+    match b {
+        b'0'..=b'9' => {
+            let (value, end) = digits(case, i + 1, longer(0, b));
+            (Token::Number(value), end)
+        }
+        b'*' => {
+            let (length, end) = digits(case, i + 1, 0);
+            (Token::Length(length), end)
+        }
+        b';' => (Token::End, i + 1),
+        _ => (Token::Blank, i + 1),
     }
 }
 
@@ -82,7 +68,7 @@ fn going_on(xs: &[u64], i: usize, w: usize) -> u64 {
     if i - w < w {
         return last;
     }
-    wrapping_add_u64(last, wrapping_sub_u64(last, get(xs, i - w - w)))
+    last.wrapping_add(last.wrapping_sub(get(xs, i - w - w)))
 }
 
 // Writes number i of a slice that has one; answers the next index.
@@ -100,26 +86,13 @@ fn go_on(xs: &mut [u64], start: usize, n: usize, k: u64) -> usize {
         return n;
     }
     let w = (n - start) / 2;
-    let mut i = n;
-    while i < xs.len() {
+    for i in n..xs.len() {
         if k <= (i - start) as u64 {
             return i;
         }
         xs[i] = going_on(xs, i, w);
-        i += 1;
     }
-    i
-}
-
-// The numbers from a list's start up to n with the token after them; answers where they end.
-fn with(xs: &mut [u64], start: usize, n: usize, t: Token) -> usize {
-    if t.kind == 2 {
-        return go_on(xs, start, n, t.value);
-    }
-    if t.kind == 1 {
-        return put(xs, n, t.value);
-    }
-    n
+    n.max(xs.len())
 }
 
 // Reads the lists of a case, one behind the other from index 8 on; number k of the slice is where list k ends.
@@ -128,31 +101,33 @@ pub fn read(case: &[u8], xs: &mut [u64]) {
     let mut start: usize = 8;
     let mut lists: usize = 0;
     let mut i: usize = 0;
+    // No `for`: a token is as long as it is.
     while i < case.len() {
-        let t = token_at(case, i);
-        i = t.end;
-        if t.kind == 3 {
-            lists = put(xs, lists, n as u64);
-            start = n;
-        } else {
-            n = with(xs, start, n, t);
+        let (token, end) = token_at(case, i);
+        match token {
+            Token::Blank => {}
+            Token::Number(value) => {
+                n = put(xs, n, value);
+            }
+            Token::Length(k) => {
+                n = go_on(xs, start, n, k);
+            }
+            Token::End => {
+                lists = put(xs, lists, n as u64);
+                start = n;
+            }
         }
+        i = end;
     }
     put(xs, lists, n as u64);
 }
 
 // The numbers from a up to e, or none where there are not so many.
-fn span<'a>(xs: &'a [u64], a: usize, e: usize) -> &'a [u64] {
-    if a <= e {
-        if e <= xs.len() {
-            return &xs[a..e];
-        }
-    }
-    let z: usize = 0;
-    &xs[z..z]
+fn span(xs: &[u64], a: usize, e: usize) -> &[u64] {
+    xs.get(a..e).unwrap_or(&[])
 }
 
 // The list that starts where list j ends, and ends where list k does.
-pub fn list<'a>(xs: &'a [u64], j: usize, k: usize) -> &'a [u64] {
+pub fn list(xs: &[u64], j: usize, k: usize) -> &[u64] {
     span(xs, get(xs, j) as usize, get(xs, k) as usize)
 }

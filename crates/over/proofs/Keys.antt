@@ -79,7 +79,7 @@ module _ (c : ℕ) (K : List ℕ) (m : ℕ) (r : List ℕ) (f : InForm c (length
   keys_left = sym (keys_count K L kept ∙ (rows_counted c (length K) L known.ordered).0)
 
   -- the key of a mark's row: a base row's, an add's own; and of no row
-  module _ {k : Mark} (g : Marks c L k) (h : k.row < length (keys_after K L)) where
+  module _ {k : Mark} (g : Marks L k) (h : k.row < length (keys_after K L)) where
     stands : (o : Origin) → origin_from 0 k.row L ≡ o → origin_key K L o ≡ get_or (keys_after K L) k.row 0
     stands o e =
         sym (key_at_lem K L kept k.row ∙ ap (origin_key K L)

@@ -1,3 +1,4 @@
+pub mod Layers
 pub mod Keys
 pub mod Around
 pub mod Overlooking

@@ -5,6 +5,7 @@ ghost use Rattle.std.specs.Prelude.{◌≡◌, length, Ok, Err};
 ghost use Rattle.model.specs.Refusals.{first_met};
 ghost use Rattle.pair.specs.Pair.{pair_form, pair_rows, pair_total};
 
+use entry::Stored;
 use words::{Cause, Refusal};
 
 // Refusals 1 and 2. The result is the rows after X and the rows after Y, together.
@@ -45,11 +46,21 @@ pub fn both_ready(
     if !keys::ascend(keys) {
         return words::refused(Cause::KeysUnordered, 0);
     }
-    let mine = fit::fit_place(c, mx, x, keys);
+    let x = Stored {
+        c,
+        m: mx,
+        numbers: x,
+    };
+    let mine = fit::fit_place(&x, keys);
     if mine < mx {
         return words::refused(Cause::BadFit, mine);
     }
-    let theirs = fit::fit_place(c, my, y, keys);
+    let y = Stored {
+        c,
+        m: my,
+        numbers: y,
+    };
+    let theirs = fit::fit_place(&y, keys);
     if theirs < my {
         return words::refused(Cause::BadFit, 1000 + theirs);
     }

@@ -24,7 +24,9 @@ use Rattle.model.specs.Calls.{both_fit_rows}
 use Rattle.theory.proofs.Fit.{fits_all, Fit, Good, good_of}
 use Rattle.theory.proofs.Column.{singles, keys_singles}
 use Rattle.theory.proofs.Stages.{stage_passed, passed_append}
-use Rattle.fit.specs.Ready.{Ready}
+use Rattle.entry.specs.declared.slice.Stored.{Stored}
+use Rattle.entry.specs.Look.{edits}
+use Rattle.fit.specs.Ready.{Ready, Fitting}
 use Rattle.fit.proofs.Answers.{ready_form}
 use Rattle.walk.specs.Walk.{Movable}
 use Rattle.pair.specs.Pair.{pair_form, pair_rows}
@@ -55,32 +57,32 @@ pub good_side : (c : ℕ) (T : Table) (m : ℕ) (xs : List ℕ) → Ready c m xs
 good_side c T m xs R =
     good_of c T (layer_of c m xs) (asc_of key T R.keys) (rw (sym (length-map T key)) (ready_form R).ordered) R.fit
 
-module _ (c : ℕ) (K : List ℕ) (mx : ℕ) (x : List ℕ) (my : ℕ) (y : List ℕ) (S : Sides c K mx x my y) where
-  fit_alone : (m : ℕ) (xs : List ℕ) → Ready c m xs K → Fit (singles K) (layer_of c m xs)
-  fit_alone m xs R = (good_side c (singles K) m xs (rw keys_singles R)).fit
+sound_position : (c n : ℕ) (e : Edit) → sound c n e ≡ true → position e ≤ n
+sound_position c n (at s (add r)) h = leb-true s n (and_l (leb s n) (eqb (length r) c) h)
+sound_position c n (at s (strike k)) h = omega (arith, ltb-true s n h)
+sound_position c n (at s (change j e)) h = omega (arith, ltb-true s n (and_l (ltb s n) (leb 1 j && ltb j c) h))
 
-  sound_position : (n : ℕ) (e : Edit) → sound c n e ≡ true → position e ≤ n
-  sound_position n (at s (add r)) h = leb-true s n (and_l (leb s n) (eqb (length r) c) h)
-  sound_position n (at s (strike k)) h = omega (arith, ltb-true s n h)
-  sound_position n (at s (change j e)) h = omega (arith, ltb-true s n (and_l (ltb s n) (leb 1 j && ltb j c) h))
+-- of two stored layers that fit the same keys the one can be moved past the other
+module _ (K : List ℕ) where
+  fit_alone : (l : Stored) → Fitting l K → Fit (singles K) (edits l)
+  fit_alone l R = (good_side l.c (singles K) l.m l.numbers.now (rw keys_singles R)).fit
 
-  pub movable : Movable c mx x my y
-  movable =
-      let F = fit_alone mx x S.mine in
-      let G = fit_alone my y S.theirs in
-      let A = ready_form S.mine in
+  pub movable : (x y : Stored) → Fitting x K → Fitting y K → Movable x y
+  movable x y R S =
+      let F = fit_alone x R in
+      let G = fit_alone y S in
+      let A = ready_form R in
       record {
-        mine = A.held;
-        theirs = (ready_form S.theirs).held;
         matched = record {
           mine = F.sorted;
           theirs = G.sorted;
           level = λ p s q r m n e.
               sym (F.sits p q m) ∙ (ap (λ (k : ℕ). count (below key k) (singles K)) e ∙ G.sits s r n);
         };
-        based = λ e m. omega (arith, sound_position (length K) e (A.each e m), A.base);
+        based = λ e m. omega (arith, sound_position x.c (length K) e (A.each e m), A.base);
       }
 
+module _ (c : ℕ) (K : List ℕ) (mx : ℕ) (x : List ℕ) (my : ℕ) (y : List ℕ) (S : Sides c K mx x my y) where
   -- a moved layer is as long as it was
   moved_numbers : (Y : Layer) (e : Edit) → length (numbers_of c (moved Y e)) ≡ length (numbers_of c e)
   moved_numbers Y (at s (add r)) = refl

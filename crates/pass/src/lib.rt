@@ -4,6 +4,7 @@
 ghost use Rattle.std.specs.Prelude.{◌≡◌};
 ghost use Rattle.model.specs.Calls.{move_answer, move_slice};
 
+use entry::Stored;
 use words::{Cause, MOST_ROWS, Refusal};
 
 // Moves X past Y: only X's positions change.
@@ -20,7 +21,17 @@ pub fn move_past(
 {
     let rows = pair::both_ready(c, keys, mx, x, my, y)?;
     let mut to: [u64; 512] = [0; 512];
-    let place = walk::first_clash(c, mx, x, my, y, &mut to);
+    let mine = Stored {
+        c,
+        m: mx,
+        numbers: x,
+    };
+    let theirs = Stored {
+        c,
+        m: my,
+        numbers: y,
+    };
+    let place = walk::first_clash(&mine, &theirs, &mut to);
     if place < mx {
         return words::refused(Cause::InConflict, place);
     }

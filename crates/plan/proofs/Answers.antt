@@ -37,14 +37,14 @@ pub may_enter : {c m : ℕ} {raw K : List ℕ} {M : Layer} {p : Move} → Known 
     → Held c m raw × Within c m p
 may_enter {c} {m} {raw} N P = (N.acc.held, plan_within c m raw (layer_of c m raw) (written N) P)
 
--- in a ready layer it may be looked where an edit lands, and what stands behind a shown row's number
-pub may_land : {c m : ℕ} {raw K : List ℕ} → Ready c m raw K → Held c m raw × AllPairs before (layer_of c m raw)
-may_land R = let N = known R in (N.acc.held, N.good.fit.sorted)
+-- in a ready layer an edit may land, and it may be looked what stands behind a shown row's number
+pub may_land : {c m : ℕ} {raw K : List ℕ} → Ready c m raw K → AllPairs before (layer_of c m raw)
+may_land R = (known R).good.fit.sorted
 
 pub may_look : {c m : ℕ} {raw K : List ℕ} {r : ℕ} → Ready c m raw K → r < rows_after (length K) (layer_of c m raw)
-    → Held c m raw × (length K ≤ 4096) × (in_order c (length K) (layer_of c m raw) ≡ true)
+    → (length K ≤ 4096) × (in_order c (length K) (layer_of c m raw) ≡ true)
     × (r < rows_after (length K) (layer_of c m raw))
-may_look R h = let k = (known R).acc in (k.held, k.base, k.ordered, h)
+may_look R h = let k = (known R).acc in (k.base, k.ordered, h)
 
 -- the answer where only the test of the room is left
 abbrev pub last : ℕ → List ℕ → Layer → Answer
@@ -71,6 +71,9 @@ module _ (c m : ℕ) (raw K : List ℕ) {t : Answer} (asked : t ≡ ready_answer
   pub passed_ready : Ready c m raw K
   passed_ready = is_ready c m raw K k (sym asked ∙ h)
 
+  pub passed_held : Held c m raw
+  passed_held = (known passed_ready).acc.held
+
   pub passed_shown : k ≡ rows_after (length K) (layer_of c m raw)
   passed_shown = rows_shown c m raw K k (sym asked ∙ h)
 
@@ -81,7 +84,8 @@ module _ (c m : ℕ) (raw K : List ℕ) {a : Answer} (z : Answer) (e : a ≡ onw
   pub go_on_lem : (k : ℕ) → ready_answer c m raw K ≡ Ok k → z ≡ a
   go_on_lem k h = sym (e ∙ ap (λ (t : Answer). onward Err t z) h)
 
-  -- a call towards the layer M that asks for these refusals first: refused as they are, by a row of its own, or done
+  -- a call towards the layer M that asks for these refusals first: refused as they are, refused by a row of its own, or
+  -- done
   module _ (M : Layer) {t : Answer} (asked : t ≡ ready_answer c m raw K) where
     pub refused_first : {x : Refusal} → t ≡ Err x → (r : Answer) → r ≡ Err x → Leaves c m raw a M r raw
     refused_first {x} h r f = refuses c m raw a M r x f (as_before x (sym asked ∙ h))

@@ -119,7 +119,8 @@ module _ {c m : ℕ} {raw K : List ℕ} (N : Known c m raw K) (row : Row) (l : l
       leads =
           ap (insert before e) S.leads
           ∙ (insert_behind before e q.i j (q.i + q.gone) S.new L first later (omega arith) h f
-          ∙ ap (λ (n : ℕ). take q.i L ++ (S.new ++ (take (j - (q.i + q.gone)) (drop (q.i + q.gone) L) ++ (e ∷ drop n L))))
+          ∙ ap (λ (n : ℕ).
+          take q.i L ++ (S.new ++ (take (j - (q.i + q.gone)) (drop (q.i + q.gone) L) ++ (e ∷ drop n L))))
           (sym (add-zero j)));
       brings = S.brings;
       brings₂ = (e, refl, add_numbers_lem N p row l, omega (arith, l));

@@ -100,7 +100,8 @@ module _ (s j : ℕ) (f : CellEdit) where
 
     -- f is the edit over what L does to the cell
     pub change_splice : (t : Bool) → changes_first s j (drop i L) ≡ t
-        → (e : CellEdit) → f ≡ composed s j e L → change_base s j e L ≡ take i L ++ (at s (change j f) ∷ drop (i + one t) L)
+        → (e : CellEdit) → f ≡ composed s j e L
+        → change_base s j e L ≡ take i L ++ (at s (change j f) ∷ drop (i + one t) L)
     unfolding change_base
     change_splice t h e z =
         rw (← z)
@@ -131,7 +132,8 @@ first_change s j (suc i) [] h = absurd (true≢false (sym h))
 first_change s j (suc i) (x ∷ L) h = let w = first_change s j i L h in (w.0, at_next x w.1)
 
 -- its numbers with another value
-pub value_set : (c s j v : ℕ) (f : CellEdit) → numbers_of c (at s (change j (to v))) ≡ set (numbers_of c (at s (change j f))) (2 + 0) v
+pub value_set : (c s j v : ℕ) (f : CellEdit)
+    → numbers_of c (at s (change j (to v))) ≡ set (numbers_of c (at s (change j f))) (2 + 0) v
 value_set c s j v (to u) = refl
 
 -- the edit number i replaced

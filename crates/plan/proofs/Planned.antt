@@ -86,7 +86,8 @@ module _ {c m : ℕ} {raw K : List ℕ} (N : Known c m raw K) where
   sorted = N.good.fit.sorted
 
   -- the numbers of an add's entry are those of the add
-  pub add_numbers_lem : (p : ℕ) (row : Row) → length row ≡ c → entry_numbers c (add_entry p (padded row)) ≡ numbers_of c (at p (add row))
+  pub add_numbers_lem : (p : ℕ) (row : Row) → length row ≡ c
+      → entry_numbers c (add_entry p (padded row)) ≡ numbers_of c (at p (add row))
   add_numbers_lem p row l = ap (λ (t : List ℕ). p ∷ ADD ∷ t) (take_at row (replicate (8 - length row) 0) c l)
 
   -- add a row: no entry goes, and its add comes where it lands
@@ -114,9 +115,10 @@ module _ {c m : ℕ} {raw K : List ℕ} (N : Known c m raw K) where
   pub struck_wide : (s k : ℕ) → length (numbers_of c (at s (strike k))) ≡ c + 2
   struck_wide s k = sound_wide c (suc s) N.acc.held.some (at s (strike k)) (lt-ltb s (suc s) (omega arith))
 
-  -- strike what stands there: a base row's changes go, from where the strike lands up to the first entry past the row, and it
-  -- comes; an added row's entry goes
-  unfoldable pub strike_from_lem : (o : Origin) → Stands (length K) L o → Splices c L (strike_origin K L o) (strike_splice K L o)
+  -- strike what stands there: a base row's changes go, from where the strike lands up to the first entry past the row,
+  -- and it comes; an added row's entry goes
+  unfoldable pub strike_from_lem : (o : Origin) → Stands (length K) L o
+      → Splices c L (strike_origin K L o) (strike_splice K L o)
   strike_from_lem (base s) w =
       let i = landing (aim s STRIKE 0) L in
       let end = landing (aim (s + 1) ADD 0) L in
@@ -198,7 +200,8 @@ module _ {c m : ℕ} {raw K : List ℕ} (N : Known c m raw K) where
     pub of_added : (i : ℕ) → back (length K) L r ≡ added i → (p : ℕ) × (q : Row) × At (at p (add q)) i 0 L
     of_added i e = subst (Stands (length K) L) e stands
 
-    pub change_of_base : (j v s : ℕ) → back (length K) L r ≡ base s → (p : Move) → Plans c L (change_base s j (to v) L) p
+    pub change_of_base : (j v s : ℕ) → back (length K) L r ≡ base s → (p : Move)
+        → Plans c L (change_base s j (to v) L) p
         → Plans c L (change_row_no K r j (to v) L) p
     unfolding change_row_no
     change_of_base j v s o p w = rw o w

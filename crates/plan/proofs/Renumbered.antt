@@ -1,5 +1,5 @@
--- Renumbering a row is two splices: the row's strike, and its add with the new number, in front of the strike where the number is
--- lower than the row's own, behind it where it is higher.
+-- Renumbering a row is two splices: the row's strike, and its add with the new number, in front of the strike where the
+-- number is lower than the row's own, behind it where it is higher.
 -- Assumes nothing.
 use Prim.Native.Nat.{ℕ, ◌≤◌, ◌<◌}
 use native.Mathlib.Nat.{add-zero}
@@ -14,7 +14,17 @@ use borrow.Author.Tests.{ltb-true, ltb-false, lt-ltb, eqb-true, eqb-false, eq-eq
 use Rattle.words.specs.declared.Origin.{Origin}
 use Rattle.words.specs.declared.Origin.TheVariants.{Base as base, Added as added}
 use Rattle.order.specs.Lists.{count, ascending}
-use Rattle.order.proofs.Ascending.{AscFrom, below, at_mem, get_or_at, asc_of, of_asc, count_mono, count_strict, get_or_count}
+use Rattle.order.proofs.Ascending.{
+  AscFrom,
+  below,
+  at_mem,
+  get_or_at,
+  asc_of,
+  of_asc,
+  count_mono,
+  count_strict,
+  get_or_count,
+}
 use Rattle.model.specs.Row.{Row, Table, key, keys, with_key}
 use Rattle.model.specs.Layer.{add, at, Layer, rows_after}
 use Rattle.model.specs.Raw.{layer_of}
@@ -108,7 +118,8 @@ module _ {c m : ℕ} {raw : List ℕ} (T : Table) (N : Known c m raw (keys T)) (
         let n = at_mem (get_or_at T s [] O.stands.0) in
         omega (arith, rank, base_rank, count_strict key T (get_or T s []) g n (omega (arith, base_key)))
 
-  -- Behind it stands added entry i, where its key puts it: the add of a lower number stands before, of a higher one behind.
+  -- Behind it stands added entry i, where its key puts it: the add of a lower number stands before, of a higher one
+  -- behind.
   module _ (i : ℕ) (O : RowOrigin T L row (added i)) where
     abbrev there : Stands (length K) L (added i)
     there = let w = added_at T L row i O in (w.0, row, w.1)
@@ -116,7 +127,8 @@ module _ {c m : ℕ} {raw : List ℕ} (T : Table) (N : Known c m raw (keys T)) (
     added_rank : count (below key (key row)) T ≡ there.0
     added_rank = G.fit.sits there.0 row (at_mem there.2)
 
-    added_down : g < key row → before (at (keys_below (key renumbered) K) (add renumbered)) (at there.0 (add row)) ≡ true
+    added_down : g < key row
+        → before (at (keys_below (key renumbered) K) (add renumbered)) (at there.0 (add row)) ≡ true
     added_down d =
         not_past (keys_below (key renumbered) K) there.0 (add renumbered) (add row)
         (omega (arith, rank, added_rank, count_mono key T g (key row) (omega arith)))
@@ -134,7 +146,8 @@ module _ {c m : ℕ} {raw : List ℕ} (T : Table) (N : Known c m raw (keys T)) (
   moves n = rw (ne_eqb (key row) g n)
 
   -- to a lower number: the add stands in front of the strike
-  pub renumber_down : g < key row → BothSplice c L (renumber_row T r g L) (add_splice K L renumbered) (strike_splice K L o)
+  pub renumber_down : g < key row
+      → BothSplice c L (renumber_row T r g L) (add_splice K L renumbered) (strike_splice K L o)
   renumber_down d = rw (moves (λ e. omega arith)) (go o (stands N r h) origin)
     where
       go : (o : Origin) → Stands (length K) L o → RowOrigin T L row o → Ahead N renumbered new_wide o
@@ -142,7 +155,8 @@ module _ {c m : ℕ} {raw : List ℕ} (T : Table) (N : Known c m raw (keys T)) (
       go (added i) w O = added_ahead N renumbered new_wide i (there i O) (added_down i O d)
 
   -- to a higher number: the add stands behind the strike
-  pub renumber_up : key row < g → BothSplice c L (renumber_row T r g L) (strike_splice K L o) (add_splice K L renumbered)
+  pub renumber_up : key row < g
+      → BothSplice c L (renumber_row T r g L) (strike_splice K L o) (add_splice K L renumbered)
   renumber_up d = rw (moves (λ e. omega arith)) (go o (stands N r h) origin)
     where
       go : (o : Origin) → Stands (length K) L o → RowOrigin T L row o → Behind N renumbered new_wide o

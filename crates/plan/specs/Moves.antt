@@ -1,7 +1,26 @@
 -- The move of the layer's slice that each edit is.
 use Rattle.words.specs.declared.Origin.{Origin}
 use Rattle.words.specs.declared.Origin.TheVariants.{Base as base, Added as added}
-use Rattle.std.specs.Prelude.{Bool, true, false, cond, Some, None, List, [], ◌++◌, ℕ, ◌+◌, ◌-◌, length, get_or, drop, replicate, ltb, eqb}
+use Rattle.std.specs.Prelude.{
+  Bool,
+  true,
+  false,
+  cond,
+  Some,
+  None,
+  List,
+  [],
+  ◌++◌,
+  ℕ,
+  ◌+◌,
+  ◌-◌,
+  length,
+  get_or,
+  drop,
+  replicate,
+  ltb,
+  eqb,
+}
 use Rattle.words.specs.Entry.{ADD, STRIKE, add_entry, strike_entry, change_entry}
 use Rattle.model.specs.Row.{Row, Table, key, keys, with_key}
 use Rattle.model.specs.Layer.{Layer}
@@ -45,8 +64,8 @@ one_of false x p = entries p
 abbrev pub value_of : ℕ → ℕ → ℕ → Move
 value_of i j v = number (record { i = i; j = j; v = v })
 
--- change column j to v: a base row's change of j that stands where it would land gets the value, else it comes there; an added
--- row gets the value
+-- change column j to v: a base row's change of j that stands where it would land gets the value, else it comes there;
+-- an added row gets the value
 abbrev pub change_move : Layer → ℕ → ℕ → Origin → Move
 change_move L j v (base s) =
     (let i = landing (aim s j 0) L in

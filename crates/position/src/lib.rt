@@ -5,6 +5,7 @@ ghost use Rattle.std.specs.Prelude.{◌≡◌, true, ◌≤◌, pos, nat_abs, �
 ghost use Rattle.std.specs.Int.Signed.{non_neg};
 ghost use Rattle.model.specs.Calls.{shift_answer, row_answer};
 
+use entry::Stored;
 use words::{Cause, Refusal};
 
 // Position s moved by d, which takes it to no negative row.
@@ -23,7 +24,12 @@ pub fn shift(c: usize, n: usize, m: usize, layer: &[u64], s: usize) -> Result<i6
         return words::refused(Cause::BadArguments, 0);
     }
     form::check_layer(c, n, m, layer)?;
-    Ok(tally::shift_at(c, m, layer, s))
+    let stored = Stored {
+        c,
+        m,
+        numbers: layer,
+    };
+    Ok(tally::shift_at(&stored, s))
 }
 
 // The row number of base position s, 0 to n, is s and its shift, which is never a negative row: for a struck row that of

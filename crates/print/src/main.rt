@@ -42,31 +42,19 @@ fn fail(rt: &HostRuntime, what: &str, why: io::Error) -> ExitCode {
 // Reads block after block, up to a number of blocks that no input has, and prints the table. Where the input cannot be read
 // or the output not written it says so and prints no more.
 fn main(rt: HostRuntime) -> ExitCode {
-    let mut table = [0u64; 1536];
-    let mut layer = [0u64; 2560];
-    let mut line = [0u8; 65];
-    let mut out = [0u8; 204800];
+    let mut reader = feed::start();
     let mut block = [0u8; 4096];
-    let mut fed = feed::start();
-    let mut left: u64 = 1125899906842624;
-    while 0 < left {
+    for turn in 0..1125899906842624u64 {
         let read = read_block(&rt, &mut block);
         let got = count(&read);
-        let taken = blocks::take_some(
-            got, &block, fed, &mut table, &mut layer, &mut line, &mut out,
-        );
-        let went = taken.went;
-        fed = taken.fed;
-        left -= 1;
+        let went = blocks::take_some(&mut reader, got, &block);
         match went {
             Went::On => {
-                if let Err(e) = write_text(&rt, &out, fed.at) {
+                if let Err(e) = write_text(&rt, &reader.out, reader.at) {
                     return fail(&rt, "the output could not be written", e);
                 }
             }
-            Went::Over => {
-                left = 0;
-            }
+            Went::Over => break,
             Went::Failed => {
                 if let Err(e) = read {
                     return fail(
@@ -79,8 +67,8 @@ fn main(rt: HostRuntime) -> ExitCode {
             }
         }
     }
-    let n = blocks::close(fed, &mut table, &mut layer, &line, &mut out);
-    if let Err(e) = write_text(&rt, &out, n) {
+    let n = blocks::close(&mut reader);
+    if let Err(e) = write_text(&rt, &reader.out, n) {
         return fail(&rt, "the output could not be written", e);
     }
     ExitCode::SUCCESS

@@ -11,13 +11,15 @@ use borrow.Author.Tests.{lt-ltb, le-ltb, ltb-true, ltb-false}
 use Rattle.words.specs.declared.Cause.TheVariants.{BadArguments, ShortBuffer}
 use Rattle.std.specs.Prelude.{Ok, Err}
 use Rattle.words.specs.declared.Refusal.{Refusal}
-use Rattle.model.specs.Raw.{layer_of}
+use Rattle.model.specs.Layer.{rows_after}
+use Rattle.model.specs.Raw.{Held, layer_of}
 use Rattle.model.specs.Refusals.{Test, refuse, first_met}
 use Rattle.words.specs.Answer.{refusal, Answer}
 use Rattle.model.specs.Calls.{form_answer, shown_column, written, read_answer, read_slice}
 use Rattle.theory.proofs.Stages.{never_done, onward, reached, stage_passed}
 use Rattle.form.proofs.Accepted.{Accepted, accepted}
 use Rattle.form.proofs.Answers.{own_argument, after_own}
+use Rattle.entry.specs.declared.slice.Stored.{Stored}
 use Rattle.column.specs.Runs.{Ready, Readable}
 use Rattle.column.proofs.Rows.{rows_shown}
 use Rattle.read.proofs.Ready.{ready}
@@ -44,6 +46,15 @@ module _ (c m : ℕ) (raw xs : List ℕ) (j len : ℕ) where
       → Err x ≡ read_answer c m raw xs j len
   form_refused x h e = sym (after_form_lem h ∙ rw e)
 
+  -- what is known where the read is done, with k rows
+  pub record Finished (k : ℕ) : Type 0 where
+    pub held : Held c m raw
+    pub column : j < c
+    pub ready : Ready j (length xs) 0 (layer_of c m raw)
+    pub room : rows_after (length xs) (layer_of c m raw) ≤ len
+    pub rows_are : length (shown_column c m raw xs j) ≡ k
+    pub within : k ≤ len
+
   -- the form check counts the rows that are shown
   module _ (k : ℕ) (h : j < c) (e : form_answer c (length xs) m raw ≡ Ok k) where
     took : Accepted c (length xs) m raw k
@@ -61,20 +72,16 @@ module _ (c m : ℕ) (raw xs : List ℕ) (j len : ℕ) where
     pub enough : k ≤ len → Ok k ≡ read_answer c m raw xs j len
     enough l = sym (after_form_lem h ∙ rw (e, le-ltb len rows (omega (arith, counted)), counted))
 
-    -- what the reader asks is what the form check has left
-    pub can_read : k ≤ len → Readable c m raw xs j len
-    can_read l = record {
+    -- what is known then, where the buffer has room
+    pub finished : k ≤ len → Finished k
+    finished l = record {
       held = took.held;
       column = h;
       ready = can_show;
       room = omega (arith, took.shown);
+      rows_are = counted;
+      within = l;
     }
-
-  -- where the read is done, with k rows
-  pub record Finished (k : ℕ) : Type 0 where
-    pub readable : Readable c m raw xs j len
-    pub rows_are : length (shown_column c m raw xs j) ≡ k
-    pub within : k ≤ len
 
   pub done : (k : ℕ) → read_answer c m raw xs j len ≡ Ok k → Finished k
   done k d = by (ltb j c) refl
@@ -85,9 +92,12 @@ module _ (c m : ℕ) (raw xs : List ℕ) (j len : ℕ) where
           let w = reached (form_answer c (length xs) m raw) (sym (after_form_lem h) ∙ d) in
           let p = stage_passed short_buffer rows k w.2 in
           let l : k ≤ len = omega (arith, ltb-false len rows p.0.0, p.1) in
-          let q = counted w.0 h w.1 in
-          record { readable = can_read w.0 h w.1 (omega (arith, q, p.1)); rows_are = p.1; within = l }
+          finished k h (w.1 ∙ ap Ok (sym (counted w.0 h w.1) ∙ p.1)) l
       by false t = never_done (column_refused (ltb-false j c t) ∙ d)
+
+-- what the reader asks is what the form check has left
+pub can_read : (l : Stored) (xs : List ℕ) (j len k : ℕ) → Finished l.c l.m l.numbers.now xs j len k → Readable l xs j len
+can_read l xs j len k F = record { column = F.column; ready = F.ready; room = F.room }
 
 -- what the buffer holds after an answer
 pub slice_after : (c m : ℕ) (raw xs : List ℕ) (j : ℕ) (out : List ℕ) (r : Answer)

@@ -4,6 +4,7 @@
 ghost use Rattle.std.specs.Prelude.{◌≡◌, length};
 ghost use Rattle.model.specs.Calls.{read_answer, read_slice};
 
+use entry::Stored;
 use words::{Cause, Refusal};
 
 // What reading column j into a buffer of len numbers answers.
@@ -40,5 +41,10 @@ pub fn read(
         (result ≡ read_answer c m L B j (length O)) × (out.new ≡ read_slice c m L B j O) }
 {
     answer(c, m, layer, base, j, out.len())?;
-    Ok(column::read_part(c, m, layer, base, j, out))
+    let stored = Stored {
+        c,
+        m,
+        numbers: layer,
+    };
+    Ok(column::read_part(&stored, base, j, out))
 }

@@ -1,7 +1,8 @@
 -- The pass that writes X's new positions: what is written, then what is to come, is the moved layer.
 -- Assumes nothing.
 use Prim.Native.Nat.{ℕ, suc, ◌+◌, ◌*◌, ◌≤◌, ◌<◌}
-use native.Mathlib.Nat.{zero-mul}
+use native.Mathlib.Nat.{zero-mul, suc-mul}
+use native.Mathlib.Numerals.{add-one}
 use native.Mathlib.Omega.{arith}
 use mathlib.Core.Path.{◌≡◌, refl, sym, ap, ◌∙◌}
 use mathlib.Core.List.Memᴰ.{head as here}
@@ -14,13 +15,10 @@ use Rattle.words.specs.declared.Entry.{Entry}
 use Rattle.model.specs.Layer.{Deed, add, strike, change, at, Layer, position}
 use Rattle.model.specs.Raw.{Held, entry_at, entries_of, deed_of, edit_of, numbers_of, layer_of, flat}
 use Rattle.model.specs.Move.{moved, move}
-use Rattle.entry.specs.declared.Cursor.{Cursor}
-use Rattle.entry.specs.Look.{first, after, Placed}
-use Rattle.entry.proofs.Looks.{entries_step, left_end, after_placed}
+use Rattle.entry.proofs.Looks.{entries_step, left_step, left_end, room_here}
 use Rattle.scan.proofs.Laws.{vals_length}
 use Rattle.form.proofs.Flat.{entry_numbers_lem}
-use Rattle.walk.specs.Walk.{Positions}
-use Rattle.walk.proofs.Marks.{entry_here, entry_room}
+use Rattle.walk.specs.Walk.{PositionsIn}
 use Rattle.relocate.specs.Zeroed.{Zeroed}
 
 -- a number written over an entry's position
@@ -58,69 +56,64 @@ module _ (c m : ℕ) (xs to : List ℕ) where
   abbrev ending : Layer → ℕ → List ℕ
   ending Y i = gather (numbers_of c) (map (moved Y) (drop i (layer_of c m xs))) ++ drop (m * (c + 2)) xs
 
-  pub record Putting (zs : List ℕ) (k : Cursor) : Type 0 where
-    pub placed : Placed c k
-    pub within : k.i ≤ m
+  pub record Putting (zs : List ℕ) (i : ℕ) : Type 0 where
     pub size : length zs ≡ length xs
-    pub untouched : drop k.at zs ≡ drop k.at xs
-    pub written : (Y : Layer) → Positions c xs Y m to
-        → flat c (move (layer_of c m xs) Y) ++ drop (m * (c + 2)) xs ≡ take k.at zs ++ ending Y k.i
+    pub untouched : drop (i * (c + 2)) zs ≡ drop (i * (c + 2)) xs
+    pub written : (Y : Layer) → PositionsIn c xs Y m to
+        → flat c (move (layer_of c m xs) Y) ++ drop (m * (c + 2)) xs ≡ take (i * (c + 2)) zs ++ ending Y i
 
-  pub putting_start : Putting xs first
+  pub putting_start : Putting xs 0
   unfolding flat
   putting_start = record {
-    placed = sym (zero-mul (c + 2));
-    within = omega arith;
     size = refl;
     untouched = refl;
-    written = λ Y q. refl;
+    written = λ Y q. rw zero-mul;
   }
 
-  module _ {zs : List ℕ} {k : Cursor} (R : Putting zs k) where
-    pub putting_end : m ≤ k.i → (Y : Layer) → Positions c xs Y m to
-        → zs ≡ flat c (move (layer_of c m xs) Y) ++ drop (m * (c + 2)) xs
-    putting_end h Y q =
-        let i-m : k.i ≡ m = omega (arith, R.within) in
-        let at-m : k.at ≡ m * (c + 2) = R.placed ∙ ap (λ (n : ℕ). n * (c + 2)) i-m in
-        sym (R.written Y q
-        ∙ rw (left_end c m k.i xs h, ← at-m, ← R.untouched) (take-append-drop k.at zs))
+  pub putting_end : {zs : List ℕ} → Putting zs m → (Y : Layer) → PositionsIn c xs Y m to
+      → zs ≡ flat c (move (layer_of c m xs) Y) ++ drop (m * (c + 2)) xs
+  putting_end {zs} R Y q =
+      sym (R.written Y q
+      ∙ rw (left_end c m m xs (omega arith), ← R.untouched) (take-append-drop (m * (c + 2)) zs))
 
-    module _ (H : Held c m xs) (h : k.i < m) where
-      pub room : k.at + (c + 2) ≤ length zs
-      room = omega (arith, R.size, entry_room c m xs k R.placed h H)
+  module _ {zs : List ℕ} {i : ℕ} (R : Putting zs i) (H : Held c m xs) (h : i < m) where
+    room : i * (c + 2) + (c + 2) ≤ length zs
+    room = omega (arith, R.size, room_here c m i xs H h)
 
-      abbrev new : ℕ
-      new = get_or to k.i 0
+    abbrev new : ℕ
+    new = get_or to i 0
 
-      abbrev entry : Entry
-      entry = entry_at c k.at xs
+    abbrev entry : Entry
+    entry = entry_at c (i * (c + 2)) xs
 
-      numbers : Zeroed c m xs → (Y : Layer) → Positions c xs Y m to
-          → numbers_of c (moved Y (edit_of entry)) ≡ new ∷ entry.kind ∷ entry.vals
-      numbers Z Y q =
-          let p : new ≡ position (moved Y (edit_of entry)) =
-          q k.i h ∙ ap (λ (f : ℕ). position (moved Y (edit_of (entry_at c f xs)))) (sym R.placed) in
-          ap (numbers_of c) (moved_at Y entry.pos (deed_of entry.kind entry.vals)
-          ∙ ap (λ (n : ℕ). at n (deed_of entry.kind entry.vals)) (sym p))
-          ∙ entry_numbers_lem c (record { pos = new; kind = entry.kind; vals = entry.vals })
-          (vals_length c k.at xs (omega (arith, R.size, room))) H.some
-          (Z entry (drop_mem k.i (entries_of c m xs) entry (rw (entries_step c m k.i xs h, R.placed) (here refl))))
+    numbers : Zeroed c m xs → (Y : Layer) → PositionsIn c xs Y m to
+        → numbers_of c (moved Y (edit_of entry)) ≡ new ∷ entry.kind ∷ entry.vals
+    numbers Z Y q =
+        ap (numbers_of c) (moved_at Y entry.pos (deed_of entry.kind entry.vals)
+        ∙ ap (λ (n : ℕ). at n (deed_of entry.kind entry.vals)) (sym (q i h)))
+        ∙ entry_numbers_lem c (record { pos = new; kind = entry.kind; vals = entry.vals })
+        (vals_length c (i * (c + 2)) xs (omega (arith, R.size, room))) H.some
+        (Z entry (drop_mem i (entries_of c m xs) entry (rw (entries_step c m i xs h) (here refl))))
 
-      pub putting_on : Zeroed c m xs → Putting (set zs k.at new) (after c k)
-      putting_on Z = record {
-        placed = after_placed c k R.placed;
-        within = omega arith;
-        size = length-set zs k.at new ∙ R.size;
-        untouched =
-            drop-set-lt (k.at + (c + 2)) zs k.at new (omega arith)
-            ∙ (sym (drop-drop (c + 2) k.at zs)
-            ∙ (ap (drop (c + 2)) R.untouched ∙ drop-drop (c + 2) k.at xs));
-        written = λ Y q.
-            R.written Y q
-            ∙ rw (
-              (entry_here c m xs k R.placed h).split,
-              numbers Z Y q,
-              entry_set c k.at new zs xs (omega (arith, R.size, room)) R.size R.untouched,
-            )
-            (simp append_assoc);
-      }
+    -- the next entry stands past this one
+    past : (i + 1) * (c + 2) ≡ i * (c + 2) + (c + 2)
+    past = rw add-one (omega (arith, suc-mul i (c + 2)))
+
+    pub putting_on : Zeroed c m xs → Putting (set zs (i * (c + 2)) new) (i + 1)
+    putting_on Z = record {
+      size = length-set zs (i * (c + 2)) new ∙ R.size;
+      untouched =
+          rw past
+          (drop-set-lt (i * (c + 2) + (c + 2)) zs (i * (c + 2)) new (omega arith)
+          ∙ (sym (drop-drop (c + 2) (i * (c + 2)) zs)
+          ∙ (ap (drop (c + 2)) R.untouched ∙ drop-drop (c + 2) (i * (c + 2)) xs)));
+      written = λ Y q.
+          R.written Y q
+          ∙ rw (
+            past,
+            left_step c m i xs h,
+            numbers Z Y q,
+            entry_set c (i * (c + 2)) new zs xs (omega (arith, R.size, room)) R.size R.untouched,
+          )
+          (simp append_assoc);
+    }

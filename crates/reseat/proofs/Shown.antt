@@ -1,4 +1,5 @@
--- A row that is shown, taken out with its values: its key, the row with another key, and what is left of the call for it.
+-- A row that is shown, taken out with its values: its key, the row with another key, and what is left of the call for
+-- it.
 -- Assumes nothing.
 use Prim.Native.Nat.{ℕ, ◌+◌, ◌*◌, ◌-◌, ◌≤◌, ◌<◌, max}
 use native.Mathlib.Nat.{zero-mul, one-mul, mul-le-mul_right}
@@ -120,7 +121,8 @@ module _ {c w m : ℕ} {raw K B : List ℕ} {r : ℕ} (A : Asked c w m raw K B r
     row_wide = ap length new_row ∙ (length-set q 0 g ∙ wide)
 
     -- whether its new key is shown, and its splice
-    pub told : (t : Bool) → t ≡ shown_key (key (take c (set row 0 g))) (keys_after K L) → t ≡ shown_key g (keys_after (keys T) L)
+    pub told : (t : Bool) → t ≡ shown_key (key (take c (set row 0 g))) (keys_after K L)
+        → t ≡ shown_key g (keys_after (keys T) L)
     told t e =
         e ∙ (ap (λ (x : Row). shown_key (key x) (keys_after K L)) new_row
         ∙ (ap (λ (k : ℕ). shown_key k (keys_after K L)) (with_key_lem g q (omega (arith, wide, some)))
@@ -179,14 +181,15 @@ module _ {c w m : ℕ} {raw K B : List ℕ} {r : ℕ} (A : Asked c w m raw K B r
       (rw (alone e, s, f) (ap Ok (sym size)), rw s own_same)
 
   -- another row has it
-  pub shown_ends : (key q ≡ g → ⊥) → shown_key g (keys_after (keys T) L) ≡ true → (x : Answer) → x ≡ Err (refusal KeyShown 0)
+  pub shown_ends : (key q ≡ g → ⊥) → shown_key g (keys_after (keys T) L) ≡ true → (x : Answer)
+      → x ≡ Err (refusal KeyShown 0)
       → Ends x raw
   shown_ends ne h x e =
       let f : shown_key g (without r (keys_after (keys T) L)) ≡ true = beside ne ∙ h in
       rw e (rw f, refl)
 
-  -- No other row has it. The splices by which the row goes and comes, as they are found over the keys that were lent, and
-  -- whether its new number is the lower.
+  -- No other row has it. The splices by which the row goes and comes, as they are found over the keys that were lent,
+  -- and whether its new number is the lower.
   pub record Turned (out into : Splice) (lower : Bool) : Type 0 where
     pub other : key q ≡ g → ⊥
     pub free : shown_key g (keys_after (keys T) L) ≡ false

@@ -1,4 +1,5 @@
--- What a renumbering answers of a row that is shown: 7 if another row has the number, then 9, else the entries there are then.
+-- What a renumbering answers of a row that is shown: 7 if another row has the number, then 9, else the entries there
+-- are then.
 use Rattle.words.specs.declared.Cause.TheVariants.{KeyShown}
 use Rattle.words.specs.Answer.{Answer}
 use Rattle.std.specs.Prelude.{List, [], ◌∷◌, ℕ, ◌≤◌, ◌<◌, ◌*◌, ◌≡◌, length, take, Ok, Err}
@@ -14,9 +15,11 @@ use Rattle.fit.specs.Ready.{Ready}
 abbrev pub renumber_rest : ℕ → ℕ → Table → Layer → ℕ → ℕ → Answer
 renumber_rest c len T L r g =
     (let M = renumber_row T r g L in
-    first_met Err (refuse KeyShown 0 (shown_key g (without r (keys_after (keys T) L))) ∷ no_room c len M ∷ []) (Ok (length M)))
+    first_met Err (refuse KeyShown 0 (shown_key g (without r (keys_after (keys T) L))) ∷ no_room c len M ∷ [])
+    (Ok (length M)))
 
--- what is asked: the layer is ready over the keys K, row r is shown, and the table in columns w apart begins with those keys
+-- what is asked: the layer is ready over the keys K, row r is shown, and the table in columns w apart begins with those
+-- keys
 pub record Asked (c w m : ℕ) (raw K table : List ℕ) (r : ℕ) : Type 0 where
   pub ready : Ready c m raw K
   pub shown : r < rows_after (length K) (layer_of c m raw)

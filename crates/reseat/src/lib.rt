@@ -8,10 +8,11 @@ ghost use Rattle.model.specs.Edits.{renumber_row};
 ghost use Rattle.model.specs.Calls.{edited};
 ghost use Rattle.reseat.specs.Rest.{renumber_rest, Asked};
 
+use entry::Stored;
 use words::{Cause, Refusal};
 
-// Renumbers row number r, which is shown, to g: the row goes and comes again with its other values as they are shown, in
-// one move of what stands between the two places and one of what stands behind both.
+// Renumbers row number r, which is shown, to g: the row goes and comes again with its other values as they are shown,
+// in one move of what stands between the two places and one of what stands behind both.
 pub fn reseat(
     c: usize,
     w: usize,
@@ -27,7 +28,12 @@ pub fn reseat(
         (result ≡ renumber_rest c (length L) T (layer_of c m L) r g)
         × (layer.new ≡ edited c m result (renumber_row T r g (layer_of c m L)) L) }
 {
-    let lifted = lift::lift(c, w, m, layer, keys, table, r);
+    let stored = Stored {
+        c,
+        m,
+        numbers: layer,
+    };
+    let lifted = lift::lift(w, &stored, keys, table, r);
     let out = lifted.splice;
     let mut row = lifted.row;
     let own = row[0];
@@ -35,7 +41,7 @@ pub fn reseat(
         return Ok(m);
     }
     row[0] = g;
-    let into = plan::add(c, m, layer, keys, &row[..c]);
+    let into = plan::add(&stored, keys, &row[..c]);
     if into.shown {
         return words::refused(Cause::KeyShown, 0);
     }

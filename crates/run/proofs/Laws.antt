@@ -6,7 +6,7 @@ use native.Mathlib.Nat.{add_assoc, zero-add}
 use native.Mathlib.Omega.{arith}
 use mathlib.Core.Path.{◌≡◌, sym, ap, ◌∙◌}
 use mathlib.Core.List.{List, ◌∷◌, ◌++◌, append_assoc, append-nil}
-use lib.ListN.{length, get_or, take, drop, set, length-append, length-drop, drop_of_length-le, take-append-drop, get_or-append}
+use lib.ListN.{length, get_or, take, drop, set, replicate, length-replicate, length-append, length-drop, drop_of_length-le, take-append-drop, get_or-append}
 use borrow.Rule.Slice.PartMut.{put_mid, Post-is}
 use lib.Seq.{
   paste,
@@ -59,6 +59,13 @@ pub put_back : (d s t : List ℕ) (at : ℕ) → t ≡ s → put_mid at (at + le
 put_back d s t at e =
     rw (e, Post-is at (at + length s) d (omega arith), take-length s)
     (sym (append_assoc (take at d) s (drop (at + length s) d)))
+
+-- a part of a list that has become zeros, put back
+pub put_zeros : (d t : List ℕ) (a b : ℕ) → t ≡ replicate (b - a) 0 → put_mid a (b - a) d t ≡ paste d a (replicate (b - a) 0) (b - a)
+put_zeros d t a b e =
+    let n = length-replicate {A = ℕ} (b - a) 0 in
+    let k : a + length (replicate {A = ℕ} (b - a) 0) - a ≡ b - a = omega (arith, n) in
+    rw (k, n) at (put_back d (replicate (b - a) 0) t a e)
 
 -- a number before the run, and one past it
 pub before_paste : (d s : List ℕ) (at n i : ℕ) → i < at → at ≤ length d → get_or (paste d at s n) i 0 ≡ get_or d i 0

@@ -4,16 +4,6 @@
 ghost use Rattle.std.specs.Prelude.{◌≡◌, ◌+◌, ◌-◌, ◌≤◌, length, drop, replicate};
 ghost use Rattle.std.proofs.Math.Seq.{paste};
 
-// Copies src over a slice of its own length.
-fn copy_same(src: &[u64], dst: &mut [u64])
-    requires { length src.now ≡ length dst.old }
-    ensures { dst.new ≡ src.now }
-{
-    for k in 0..src.len() {
-        dst[k] = src[k];
-    }
-}
-
 // Copies all of src into dst from index at on, and returns the index after the last number written.
 pub fn copy_in(src: &[u64], dst: &mut [u64], at: usize) -> usize
     requires { at + length src.now ≤ length dst.old }
@@ -21,18 +11,17 @@ pub fn copy_in(src: &[u64], dst: &mut [u64], at: usize) -> usize
         × (dst.new ≡ paste dst.old at src.now (length src.now)) }
 {
     let end = at + src.len();
-    copy_same(src, &mut dst[at..end]);
+    dst[at..end].copy_from_slice(src);
     end
 }
 
-// Moves the numbers from a up to b by w places up, the last first.
+// Moves the numbers from a up to b by w places up, the last first. The library's `copy_within` is the C library's memmove,
+// which stores numbers twice where its vectors overlap: in slow memory each number is stored once.
 pub fn shift_up(a: usize, b: usize, w: usize, layer: &mut [u64])
     requires { (a ≤ b) × (b + w ≤ length layer.old) }
     ensures { layer.new ≡ paste layer.old (a + w) (drop a layer.old) (b - a) }
 {
-    let mut k = b;
-    while a < k {
-        k -= 1;
+    for k in (a..b).rev() {
         layer[k + w] = layer[k];
     }
 }
@@ -52,7 +41,5 @@ pub fn clear(a: usize, b: usize, layer: &mut [u64])
     requires { (a ≤ b) × (b ≤ length layer.old) }
     ensures { layer.new ≡ paste layer.old a (replicate (b - a) 0) (b - a) }
 {
-    for k in a..b {
-        layer[k] = 0;
-    }
+    layer[a..b].fill(0);
 }

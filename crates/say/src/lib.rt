@@ -1,8 +1,6 @@
 // What a call answered: the number of the answer and its value, and the numbers of a slice.
 #![tactic(auto)]
 
-ghost use Rattle.std.specs.Prelude.{◌≤◌};
-
 use numbers::get;
 use view::Seen;
 use words::{Origin, Refusal};
@@ -11,32 +9,6 @@ use words::{Origin, Refusal};
 fn after(text: &[u8], x: u64) {
     io::write_all(1, text);
     io::print_decimal(1, x);
-}
-
-// By how much a passes b, below zero where it does not.
-fn less(a: usize, b: usize) -> i64
-    requires { (a ≤ 512) × (b ≤ 512) }
-{
-    (a as i64) - (b as i64)
-}
-
-// Whether z is k or as far below zero.
-fn is_size(k: usize, z: i64) -> bool
-    requires { k ≤ 512 }
-{
-    (less(k, 0) == z) | (less(0, k) == z)
-}
-
-// How far a shift is from zero.
-fn size(z: i64) -> usize {
-    let mut k: usize = 0;
-    while k < 512 {
-        if is_size(k, z) {
-            return k;
-        }
-        k += 1;
-    }
-    k
 }
 
 // An answer after some text.
@@ -48,12 +20,8 @@ pub fn answer(text: &[u8], a: Result<usize, Refusal>) {
 pub fn shift(a: Result<i64, Refusal>) {
     match a {
         Ok(z) => {
-            let k = size(z) as u64;
-            if z < 0 {
-                after(b" 0 -", k);
-            } else {
-                after(b" 0 ", k);
-            }
+            let sign: &[u8] = if z < 0 { b" 0 -" } else { b" 0 " };
+            after(sign, z.unsigned_abs());
         }
         Err(x) => answer(b" ", Err(x)),
     }
@@ -84,33 +52,25 @@ pub fn shown(xs: &[u64]) {
         return after(b" .. ", xs[n - 1]);
     }
     io::write_all(1, b" |");
-    let mut i: usize = 0;
-    while i < n {
-        after(b" ", xs[i]);
-        i += 1;
+    for x in xs {
+        after(b" ", *x);
     }
 }
 
 // How many numbers of a slice a call altered, the index of the last, and what it is.
 fn altered(was: &[u64], xs: &[u64]) {
-    let mut count: usize = 0;
-    let mut last: usize = 0;
-    let mut value: u64 = 0;
-    let mut i: usize = 0;
-    while i < xs.len() {
-        let at = i;
-        let x = xs[at];
-        i += 1;
-        if get(was, at) != x {
+    let mut count: u64 = 0;
+    let mut last = None;
+    for (i, x) in xs.iter().enumerate() {
+        if get(was, i) != *x {
             count += 1;
-            last = at;
-            value = x;
+            last = Some((i, *x));
         }
     }
-    after(b" | altered ", count as u64);
-    if 0 < count {
-        after(b", last ", last as u64);
-        after(b" is ", value);
+    after(b" | altered ", count);
+    if let Some((i, x)) = last {
+        after(b", last ", i as u64);
+        after(b" is ", x);
     }
 }
 

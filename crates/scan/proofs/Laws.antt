@@ -1,10 +1,10 @@
--- One step and the end of each loop of the form check, over the definitions of specs/Scan.antt.
+-- The form check over the definitions of specs/Scan.antt: an entry alone, one step and the end of the pass, what its counts say.
 -- Assumes nothing.
 use Prim.Native.Nat.{ℕ, ◌+◌, ◌-◌, ◌≤◌, ◌<◌}
 use native.Mathlib.Numerals.{add-one}
 use native.Mathlib.Omega.{arith}
 use mathlib.Core.Path.{◌≡◌, refl}
-use mathlib.Core.Bool.{Bool, true, false, ◌&&◌, ◌||◌, and-true}
+use mathlib.Core.Bool.{true, false, ◌&&◌, ◌||◌, and-true}
 use mathlib.Core.List.{List, [], ◌∷◌}
 use lib.ListN.{length, get_or, take, drop, drop_of_length-le, length-drop}
 use lib.Seq.{drop-cons, length-take-le}
@@ -16,18 +16,10 @@ use Rattle.order.specs.Lists.{all}
 use Rattle.words.specs.declared.Entry.{Entry}
 use Rattle.words.specs.Answer.{refusal}
 use Rattle.model.specs.Form.{sound}
-use Rattle.model.specs.Raw.{entry_at, entries_at}
+use Rattle.model.specs.Raw.{none}
 use Rattle.words.specs.Entry.{ADD, STRIKE}
-use Rattle.theory.proofs.Raw.{rest_step, rest_end}
 use Rattle.scan.specs.Scan.{base_good, alone_good, good_after, good_from, judgement}
 use Rattle.scan.proofs.ByKind.{edit_by}
-
-module _ (f : ℕ → Bool) (xs : List ℕ) (j : ℕ) where
-  pub all_step : j < length xs → all f (drop j xs) ≡ (f (get_or xs j 0) && all f (drop (j + 1) xs))
-  all_step h = rw (add-one, drop-cons xs j 0)
-
-  pub all_end : length xs ≤ j → all f (drop j xs) ≡ true
-  all_end h = rw (drop_of_length-le xs {i = j} h)
 
 -- an entry within its slice has c values
 pub vals_length : (c from : ℕ) (xs : List ℕ) → from + (c + 2) ≤ length xs → length (take c (drop (from + 2) xs)) ≡ c
@@ -48,23 +40,21 @@ alone_other c n e h =
     ≡ (all (λ v. eqb v 0) (drop 1 e.vals) && (ltb e.pos n && (t || (leb 1 e.kind && ltb e.kind c)))))
     [ true ↦ rw and-true | false ↦ refl ])
 
--- The entries from number i of m on, the first of which stands at `from`, after one at p of kind q.
-module _ (c n m p q i from : ℕ) (xs : List ℕ) where
-  pub good_step : i < m → good_after c n p q (entry_at c from xs) ≡ true
-      → good_from c n p q (entries_at c (m - i) from xs)
-      ≡ entry_at c from xs
-      ∷ good_from c n (entry_at c from xs).pos (entry_at c from xs).kind (entries_at c (m - (i + 1)) (from + (c + 2)) xs)
+-- The entries from number i on, after one at p of kind q.
+module _ (c n p q i : ℕ) (es : List Entry) where
+  pub good_step : i < length es → good_after c n p q (get_or es i none) ≡ true
+      → good_from c n p q (drop i es)
+      ≡ get_or es i none ∷ good_from c n (get_or es i none).pos (get_or es i none).kind (drop (i + 1) es)
   unfolding good_from
-  good_step h b = rw (rest_step c m i from xs h, b)
+  good_step h b = rw (drop-cons es i none h, add-one, b)
 
-  pub good_stop : i < m → good_after c n p q (entry_at c from xs) ≡ false
-      → good_from c n p q (entries_at c (m - i) from xs) ≡ []
+  pub good_stop : i < length es → good_after c n p q (get_or es i none) ≡ false → good_from c n p q (drop i es) ≡ []
   unfolding good_from
-  good_stop h b = rw (rest_step c m i from xs h, b)
+  good_stop h b = rw (drop-cons es i none h, b)
 
-  pub good_end : m ≤ i → good_from c n p q (entries_at c (m - i) from xs) ≡ []
+  pub good_end : length es ≤ i → good_from c n p q (drop i es) ≡ []
   unfolding good_from
-  good_end h = rw (rest_end c m i from xs h)
+  good_end h = rw (drop_of_length-le es {i = i} h)
 
 -- What the pass says of form, case by case.
 module _ (n m place adds strikes : ℕ) where

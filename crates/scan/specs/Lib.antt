@@ -1,1 +1,3 @@
+pub mod Pass
 pub mod Scan
+pub mod Slice

@@ -18,8 +18,7 @@ use Rattle.model.specs.Raw.{layer_of}
 use Rattle.model.specs.Read.{read, read_column}
 use Rattle.model.specs.Calls.{form_answer}
 use Rattle.theory.proofs.Column.{Wide, column_read}
-use Rattle.read.proofs.Answers.{counted, can_read}
-use Rattle.column.specs.Runs.{Readable}
+use Rattle.read.proofs.Answers.{Finished, counted, finished}
 use Rattle.form.proofs.Accepted.{accepted}
 use Rattle.words.specs.declared.Refusal.{Refusal}
 use Rattle.base.specs.declared.Counts.{Counts}
@@ -91,8 +90,8 @@ module _ (rows n m j : ℕ) (raw table : List ℕ) (few : n ≤ most_base) (size
   same : form_answer 3 (length base) m raw ≡ Ok rows
   same = rw (base_size n j table few size h) e
 
-  pub ready_to_read : (len : ℕ) → rows ≤ len → Readable 3 m raw base j len
-  ready_to_read len k = can_read 3 m raw base j len rows h same k
+  pub ready_to_read : (len : ℕ) → rows ≤ len → Finished 3 m raw base j len rows
+  ready_to_read len k = finished 3 m raw base j len rows h same k
 
   -- it stands at its place in the work buffer, and what stands before it stays
   pub column_stands : (k q : ℕ) (work new rest : List ℕ) → k ≡ n → length work ≡ 3072 →

@@ -9,6 +9,7 @@ ghost use Rattle.base.specs.Base.{most_base, column_of, sheet_of, table_of};
 ghost use Rattle.show.specs.Shown.{Formed, ending};
 
 use base::Counts;
+use entry::Stored;
 
 // Reads column j of the n base rows to its place in the work buffer; the layer keeps form and shows so many rows.
 fn read_column(
@@ -28,14 +29,12 @@ fn read_column(
 {
     let from = 512 * j;
     let at = 1024 * j;
-    column::read_part(
-        3,
+    let stored = Stored {
+        c: 3,
         m,
-        layer,
-        &table[from..from + n],
-        j,
-        &mut work[at..at + 1024],
-    );
+        numbers: layer,
+    };
+    column::read_part(&stored, &table[from..from + n], j, &mut work[at..at + 1024]);
 }
 
 // Writes the rows that the layer shows; it keeps form and shows so many.

@@ -1,85 +1,70 @@
 // One pass over the entries of a file, where they stand: the first that breaks a rule of form, and the adds and strikes before it.
 #![tactic(auto)]
 
-ghost use Rattle.std.specs.Prelude.{◌≡◌, ◌+◌, ◌*◌, ◌≤◌, length, drop, eqb};
-ghost use Rattle.order.specs.Lists.{all, count};
+mod bytes;
+
+ghost use Rattle.std.specs.Prelude.{◌≡◌, ◌+◌, ◌*◌, ◌≤◌, ◌<◌, length};
+ghost use Rattle.order.specs.Lists.{count};
 ghost use Rattle.little.specs.Little.{numbers_at};
 ghost use Rattle.words.specs.Entry.{ADD, STRIKE};
 ghost use Rattle.model.specs.Raw.{entries_of};
-ghost use Rattle.scan.specs.Scan.{alone_good, good, of_kind};
-ghost use Rattle.format.specs.File.{width, entry_in, InFile};
+ghost use Rattle.scan.specs.Scan.{good, of_kind};
+ghost use Rattle.format.specs.File.{width, InFile};
+ghost use Rattle.sift.specs.Bytes.{bytes_wide, bytes_few};
 
-use scan::Scan;
-use words::Entry;
+use bytes::InBytes;
+use head::Head;
+use scan::{Entries, Scan};
 
-// Of the c values from byte `at` on, those after the first are all zero.
-fn tail_zero(c: usize, at: usize, file: &[u8]) -> bool
-    requires { at + 8 * c ≤ length file.now }
-    ensures { result ≡ all (λ v. eqb v 0) (drop 1 (numbers_at c at file.now)) }
-{
-    let mut zero = true;
-    for j in 1..c {
-        zero = zero & (little::number_at(file, at + 8 * j) == 0);
+impl InBytes<'_> {
+    // The first byte of entry i.
+    fn at(&self, i: usize) -> usize
+        requires { i < self.now.m }
+        ensures { (result ≡ self.now.start + 8 * (i * (self.now.c + 2)))
+            × (result + 8 * (self.now.c + 2) ≤ length self.now.file.now) }
+    {
+        self.start + 8 * (i * (self.c + 2))
     }
-    zero
 }
 
-// The entry from byte `at` breaks no rule alone.
-fn alone_good(c: usize, n: usize, at: usize, file: &[u8]) -> bool
-    requires { at + 8 * (c + 2) ≤ length file.now }
-    ensures { result ≡ alone_good c n (entry_in c at file.now) }
-{
-    let s = little::number_at(file, at);
-    let k = little::number_at(file, at + 8);
-    if k == Entry::ADD {
-        return s <= n as u64;
+impl Entries for InBytes<'_> {
+    ghost entries = { λ l. entries_of l.c l.m (numbers_at (width l.c l.m) l.start l.file.now) };
+
+    ghost columns = { λ l. l.c };
+
+    ghost wide = { bytes_wide };
+
+    ghost few = { bytes_few };
+
+    fn columns(&self) -> usize {
+        self.c
     }
-    if !scan::base_good(c, n, s, k) {
-        return false;
+
+    fn count(&self) -> usize {
+        self.m
     }
-    tail_zero(c, at + 16, file)
+
+    fn head(&self, i: usize) -> Head {
+        let at = self.at(i);
+        Head {
+            pos: little::number_at(self.file, at),
+            kind: little::number_at(self.file, at + 8),
+            first: little::number_at(self.file, at + 16),
+        }
+    }
+
+    fn value(&self, i: usize, j: usize) -> u64 {
+        little::number_at(self.file, self.at(i) + 16 + 8 * j)
+    }
 }
 
-// The pass over the m entries from byte `start` on. Each test is a branch of its own, which no entry of an accepted file takes.
+// The pass over the m entries from byte `start` on.
 pub fn scan_file(c: usize, n: usize, m: usize, start: usize, file: &[u8]) -> Scan
     requires { InFile c m start file.now }
     ensures { let es = entries_of c m (numbers_at (width c m) start file.now) in
         (result.place ≡ length (good c n es)) × (result.adds ≡ count (of_kind ADD) (good c n es))
         × (result.strikes ≡ count (of_kind STRIKE) (good c n es)) }
 {
-    let mut i: usize = 0;
-    let mut at = start;
-    let mut p: u64 = 0;
-    let mut q = Entry::ADD;
-    let mut adds: usize = 0;
-    let mut strikes: usize = 0;
-    while i < m {
-        let s = little::number_at(file, at);
-        let k = little::number_at(file, at + 8);
-        if !alone_good(c, n, at, file) {
-            return Scan {
-                place: i,
-                adds,
-                strikes,
-            };
-        }
-        if !scan::follows(p, q, s, k) {
-            return Scan {
-                place: i,
-                adds,
-                strikes,
-            };
-        }
-        adds += entry::one_if(k == Entry::ADD);
-        strikes += entry::one_if(k == Entry::STRIKE);
-        p = s;
-        q = k;
-        at += 8 * (c + 2);
-        i += 1;
-    }
-    Scan {
-        place: i,
-        adds,
-        strikes,
-    }
+    let layer = InBytes { c, m, start, file };
+    scan::scan_entries(n, &layer)
 }

@@ -5,6 +5,7 @@ ghost use Rattle.std.specs.Prelude.{◌≡◌};
 ghost use Rattle.model.specs.Calls.{strike_answer, strike_slice};
 
 use enter::Move;
+use entry::Stored;
 use words::{Cause, Refusal};
 
 // Strike row number r: an added row's entry disappears; a base row loses its changes and gains a strike.
@@ -22,6 +23,11 @@ pub fn strike(
     if rows <= r {
         return words::refused(Cause::NoSuchRow, 0);
     }
-    let p = plan::strike(c, m, layer, keys, r);
+    let stored = Stored {
+        c,
+        m,
+        numbers: layer,
+    };
+    let p = plan::strike(&stored, keys, r);
     enter::enter(c, m, Move::Entries(p), layer)
 }

@@ -1,20 +1,22 @@
 -- One step and the end of each loop of the fit check: ahead for a strike, over the entries.
 -- Assumes nothing.
-use Prim.Native.Nat.{ℕ, zero, suc, ◌+◌, ◌-◌, ◌≤◌, ◌<◌}
+use Prim.Native.Nat.{ℕ, zero, suc, ◌+◌, ◌*◌, ◌-◌, ◌≤◌, ◌<◌}
+use native.Mathlib.Nat.{suc-mul}
 use native.Mathlib.Omega.{arith}
 use mathlib.Core.Path.{◌≡◌, refl, sym, ap, ◌∙◌}
 use mathlib.Core.Bool.{Bool, true, false, not, ◌&&◌, ◌||◌, and-true, or-false}
-use mathlib.Core.List.{List}
+use mathlib.Core.List.{List, [], ◌∷◌}
 use lib.ListN.{length, get_or}
 use lib.Dec.{leb, ltb, eqb}
-use borrow.Author.Tests.{le-leb, lt-leb, le-ltb, eq-eqb, ne_eqb, leb-true, leb-false, ltb-true}
-use Rattle.order.proofs.Tests.{and_l}
+use borrow.Author.Tests.{le-leb, lt-leb, le-ltb, eq-eqb, ne_eqb, leb-false}
 use Rattle.words.specs.declared.Entry.{Entry}
-use Rattle.model.specs.Form.{sound}
-use Rattle.model.specs.Raw.{entry_at, entries_at, edit_of}
+use Rattle.model.specs.Raw.{entries_at}
 use Rattle.words.specs.Entry.{ADD, STRIKE}
 use Rattle.model.specs.Fit.{above}
-use Rattle.theory.proofs.Raw.{value_at_lem, rest_step, rest_end}
+use Rattle.theory.proofs.Raw.{rest_step, rest_end}
+use Rattle.head.specs.declared.Head.{Head}
+use Rattle.entry.specs.declared.slice.Stored.{Stored}
+use Rattle.entry.specs.Look.{entry_of, entries_from}
 use Rattle.suit.specs.Suit.{first, struck_ahead, under_ahead, suits_ahead, rises_kind, add_fits, fits_after, fit_from}
 
 -- K[s-1] < k
@@ -98,47 +100,49 @@ rises_other p q u s k v h = rw (ne_eqb k ADD h) (by (eqb p s) (eqb q ADD))
     by true false = refl
     by false b = refl
 
--- where it may stand
-module _ (c n : ℕ) (e : Entry) (s : sound c n (edit_of e) ≡ true) where
-  pub sound_add : e.kind ≡ ADD → e.pos ≤ n
-  sound_add h = leb-true e.pos n (and_l (leb e.pos n) (eqb (length e.vals) c) (rw (eq-eqb e.kind ADD h) at s))
+-- before the first entry stands, as it were, a change at position 0
+abbrev pub change_first : Head
+change_first = record { pos = 0; kind = 0; first = 0 }
 
-  pub sound_strike : e.kind ≡ STRIKE → e.pos < n
-  sound_strike h = ltb-true e.pos n (rw (h) at s)
+-- The entries of a stored layer from number i on.
+module _ (l : Stored) (i : ℕ) where
+  pub from_step : i < l.m → entries_from l i ≡ entry_of l i ∷ entries_from l (i + 1)
+  from_step h =
+      rest_step l.c l.m i (i * (l.c + 2)) l.numbers.now h
+      ∙ ap (λ (k : ℕ). entry_of l i ∷ entries_at l.c (l.m - (i + 1)) k l.numbers.now)
+      (omega (arith, suc-mul i (l.c + 2)))
 
--- its first value stands two numbers on
-pub first_at_lem : (c from : ℕ) (xs : List ℕ) → 1 ≤ c → first (entry_at c from xs) ≡ get_or xs (from + 2) 0
-first_at_lem c from xs h = value_at_lem c from 0 xs h ∙ ap (λ (k : ℕ). get_or xs k 0) (omega arith)
+  pub from_end : l.m ≤ i → entries_from l i ≡ []
+  from_end h = rest_end l.c l.m i (i * (l.c + 2)) l.numbers.now h
 
--- The entries from number i of m on, the first of which stands at `from`.
-module _ (c m i from : ℕ) (xs : List ℕ) where
-  pub ahead_step : (s : ℕ) → i < m → struck_ahead s (entries_at c (m - i) from xs)
-      ≡ (eqb (get_or xs from 0) s
-      && (eqb (get_or xs (from + 1) 0) STRIKE || struck_ahead s (entries_at c (m - (i + 1)) (from + (c + 2)) xs)))
+  pub ahead_step : (s : ℕ) → i < l.m → struck_ahead s (entries_from l i)
+      ≡ (eqb (entry_of l i).pos s && (eqb (entry_of l i).kind STRIKE || struck_ahead s (entries_from l (i + 1))))
   unfolding struck_ahead
-  ahead_step s h = rw (rest_step c m i from xs h)
+  ahead_step s h = rw (from_step h)
 
-  pub ahead_end : (s : ℕ) → m ≤ i → struck_ahead s (entries_at c (m - i) from xs) ≡ false
+  pub ahead_end : (s : ℕ) → l.m ≤ i → struck_ahead s (entries_from l i) ≡ false
   unfolding struck_ahead
-  ahead_end s h = rw (rest_end c m i from xs h)
+  ahead_end s h = rw (from_end h)
 
   -- entry i is judged with those after it
-  abbrev pub fine : List ℕ → ℕ → ℕ → ℕ → Bool
-  fine K p q u = suits_ahead K (entry_at c from xs) (entries_at c (m - i) from xs)
-      && rises_kind p q u (get_or xs from 0) (get_or xs (from + 1) 0) (first (entry_at c from xs))
+  abbrev pub fine : List ℕ → Head → Bool
+  fine K d = fits_after K d.pos d.kind d.first (entry_of l i) (entries_from l i)
 
-  pub fit_step : (K : List ℕ) (p q u : ℕ) → i < m → fine K p q u ≡ true
-      → fit_from K p q u (entries_at c (m - i) from xs)
-      ≡ suc (fit_from K (get_or xs from 0) (get_or xs (from + 1) 0) (first (entry_at c from xs))
-      (entries_at c (m - (i + 1)) (from + (c + 2)) xs))
-  unfolding fit_from
-  fit_step K p q u h b = rw (rest_step c m i from xs h, rw (rest_step c m i from xs h) at b)
+  module _ (K : List ℕ) (d : Head) where
+    -- so many of them stand before the first that breaks a rule, after one with the head d
+    abbrev pub places : ℕ
+    places = fit_from K d.pos d.kind d.first (entries_from l i)
 
-  pub fit_stop : (K : List ℕ) (p q u : ℕ) → i < m → fine K p q u ≡ false
-      → fit_from K p q u (entries_at c (m - i) from xs) ≡ 0
-  unfolding fit_from
-  fit_stop K p q u h b = rw (rest_step c m i from xs h, rw (rest_step c m i from xs h) at b)
+    pub fit_step : i < l.m → fine K d ≡ true
+        → places
+        ≡ suc (fit_from K (entry_of l i).pos (entry_of l i).kind (first (entry_of l i)) (entries_from l (i + 1)))
+    unfolding fit_from
+    fit_step h b = rw (from_step h, rw (from_step h) at b)
 
-  pub fit_end : (K : List ℕ) (p q u : ℕ) → m ≤ i → fit_from K p q u (entries_at c (m - i) from xs) ≡ 0
-  unfolding fit_from
-  fit_end K p q u h = rw (rest_end c m i from xs h)
+    pub fit_stop : i < l.m → fine K d ≡ false → places ≡ 0
+    unfolding fit_from
+    fit_stop h b = rw (from_step h, rw (from_step h) at b)
+
+    pub fit_end : l.m ≤ i → places ≡ 0
+    unfolding fit_from
+    fit_end h = rw (from_end h)

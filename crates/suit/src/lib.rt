@@ -1,120 +1,86 @@
 // Whether one entry of a layer in form fits the key column, alone and after the one before it.
 #![tactic(auto)]
 
-ghost use Rattle.std.specs.Prelude.{◌≡◌, true, ◌+◌, ◌*◌, ◌-◌, ◌≤◌, ◌<◌, length, get_or};
-ghost use Rattle.model.specs.Raw.{entry_at, entries_at, edit_of};
+ghost use Rattle.std.specs.Prelude.{◌≡◌, true, ◌-◌, ◌<◌, length, get_or};
+ghost use Rattle.model.specs.Raw.{edit_of};
 ghost use Rattle.words.specs.Entry.{ADD};
 ghost use Rattle.model.specs.Form.{sound};
+ghost use Rattle.entry.specs.Look.{entry_of, entries_from};
 ghost use Rattle.suit.specs.Suit.{struck_ahead, rises_kind, add_fits, fits_after};
 
+use entry::Stored;
+use head::Head;
 use words::Entry;
 
-// An add equal to the base key at s looks ahead: a strike stands among the entries at s from entry i on, at `from`.
-fn strike_ahead(c: usize, m: usize, i: usize, from: usize, s: u64, layer: &[u64]) -> bool
-    requires { from + (m - i) * (c + 2) ≤ length layer.now }
-    ensures { result ≡ struck_ahead s (entries_at c (m - i) from layer.now) }
+// An add equal to the base key at s looks ahead: a strike stands among the entries at s from entry i on.
+fn strike_ahead(layer: &Stored, i: usize, s: u64) -> bool
+    ensures { result ≡ struck_ahead s (entries_from layer.now i) }
 {
-    let mut j = i;
-    let mut at = from;
-    while j < m {
-        if layer[at] != s {
+    for j in i..layer.m {
+        if layer.pos(j) != s {
             return false;
         }
-        if layer[at + 1] == Entry::STRIKE {
+        if layer.kind(j) == Entry::STRIKE {
             return true;
         }
-        at += c + 2;
-        j += 1;
     }
     false
 }
 
-// The key before position s, or 0.
-fn key_before(s: usize, keys: &[u64]) -> u64
-    requires { s ≤ length keys.now }
-    ensures { (s ≡ 0 → ⊥) → result ≡ get_or keys.now (s - 1) 0 }
-{
-    if s == 0 {
-        return 0;
-    }
-    keys[s - 1]
-}
-
 // The key at position s, or 0.
 fn key_there(s: usize, keys: &[u64]) -> u64
-    ensures { s < length keys.now → result ≡ get_or keys.now s 0 }
+    ensures { result ≡ get_or keys.now s 0 }
 {
-    if keys.len() <= s {
-        return 0;
-    }
-    keys[s]
+    keys.get(s).copied().unwrap_or(0)
 }
 
-// An add at s with key v may stand after an entry at p of kind q and first value u.
-fn rises(p: u64, q: u64, u: u64, s: u64, v: u64) -> bool
-    ensures { result ≡ rises_kind p q u s ADD v }
+// The key before position s, where it is past 0.
+fn key_before(s: usize, keys: &[u64]) -> u64
+    ensures { result ≡ get_or keys.now (s - 1) 0 }
 {
-    (p != s) | ((q != Entry::ADD) | (u < v))
+    key_there(s.saturating_sub(1), keys)
 }
 
-// Entry i, an add that stands from `at`, fits a column of n keys, where `last` is the key before its position and `next`
-// the one at it, after an entry at p of kind q and first value u.
-pub fn add_fits(
-    c: usize,
-    m: usize,
-    i: usize,
-    at: usize,
-    layer: &[u64],
-    n: usize,
-    last: u64,
-    next: u64,
-    p: u64,
-    q: u64,
-    u: u64,
-) -> bool
-    requires { (at + (m - i) * (c + 2) ≤ length layer.now) × (at + (c + 2) ≤ length layer.now) × (1 ≤ c) }
-    ensures { result ≡ add_fits n last next p q u (entry_at c at layer.now)
-        (entries_at c (m - i) at layer.now) }
+// An add at s with key v may stand after an entry with the head d.
+fn rises(d: Head, s: u64, v: u64) -> bool
+    ensures { result ≡ rises_kind d.pos d.kind d.first s ADD v }
 {
-    let s = layer[at];
-    let v = layer[at + 2];
-    let low = ((s == 0) | (last < v)) & rises(p, q, u, s, v);
-    if n as u64 <= s {
+    (d.pos != s) | ((d.kind != Entry::ADD) | (d.first < v))
+}
+
+// Entry i, an add, fits a column of n keys, where `last` is the key before its position and `next` the one at it, after one
+// with the head d.
+pub fn add_fits(layer: &Stored, i: usize, n: usize, last: u64, next: u64, d: Head) -> bool
+    requires { i < layer.now.m }
+    ensures { result ≡ add_fits n last next d.pos d.kind d.first (entry_of layer.now i)
+        (entries_from layer.now i) }
+{
+    let e = layer.head(i);
+    let low = ((e.pos == 0) | (last < e.first)) & rises(d, e.pos, e.first);
+    if n as u64 <= e.pos {
         return low;
     }
-    if v != next {
-        return low & (v < next);
+    if e.first != next {
+        return low & (e.first < next);
     }
-    low & strike_ahead(c, m, i, at, s, layer)
+    low & strike_ahead(layer, i, e.pos)
 }
 
-// Entry i, which stands from `at`, breaks no rule of fit alone, nor after one at p of kind q and first value u.
-pub fn fits_after(
-    c: usize,
-    m: usize,
-    i: usize,
-    at: usize,
-    layer: &[u64],
-    keys: &[u64],
-    p: u64,
-    q: u64,
-    u: u64,
-) -> bool
-    requires { (at + (m - i) * (c + 2) ≤ length layer.now) × (at + (c + 2) ≤ length layer.now) × (1 ≤ c)
-        × (sound c (length keys.now) (edit_of (entry_at c at layer.now)) ≡ true) }
-    ensures { result ≡ fits_after keys.now p q u (entry_at c at layer.now)
-        (entries_at c (m - i) at layer.now) }
+// Entry i breaks no rule of fit alone, nor after one with the head d.
+pub fn fits_after(layer: &Stored, i: usize, keys: &[u64], d: Head) -> bool
+    requires { (i < layer.now.m) × (sound layer.now.c (length keys.now) (edit_of (entry_of layer.now i)) ≡ true) }
+    ensures { result ≡ fits_after keys.now d.pos d.kind d.first (entry_of layer.now i)
+        (entries_from layer.now i) }
 {
-    let s = layer[at] as usize;
-    let k = layer[at + 1];
-    let v = layer[at + 2];
-    if k == Entry::ADD {
+    let e = layer.head(i);
+    let s = e.pos as usize;
+    if e.kind == Entry::ADD {
         let last = key_before(s, keys);
         let next = key_there(s, keys);
-        return add_fits(c, m, i, at, layer, keys.len(), last, next, p, q, u);
+        return add_fits(layer, i, keys.len(), last, next, d);
     }
-    if k == Entry::STRIKE {
-        return keys[s] == v;
+    if e.kind == Entry::STRIKE {
+        return keys[s] == e.first;
     }
     true
 }

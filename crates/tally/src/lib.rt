@@ -4,11 +4,11 @@
 ghost use Rattle.std.specs.Prelude.{◌≡◌, ◌+◌, ◌≤◌, ◌<◌};
 ghost use Rattle.std.proofs.Math.IntN.{sub_ℕ};
 ghost use Rattle.order.specs.Lists.{one, count};
-ghost use Rattle.model.specs.Raw.{Held, layer_of};
+ghost use Rattle.entry.specs.Look.{edits};
 ghost use Rattle.model.specs.Position.{add_up_to, strike_before, shift};
 ghost use Rattle.tally.specs.Seen.{add_seen, strike_seen};
 
-use entry::{Cursor, Sight};
+use entry::{Sight, Stored};
 
 // By how much a passes b, below zero where it does not.
 fn less(a: usize, b: usize) -> i64
@@ -34,43 +34,38 @@ impl Tally {
     {
         match f {
             Sight::Add(p, _) => Self {
-                adds: self.adds + entry::one_if(p <= s),
+                adds: self.adds + usize::from(p <= s),
                 strikes: self.strikes,
             },
             Sight::Strike(p, _) => Self {
                 adds: self.adds,
-                strikes: self.strikes + entry::one_if(p < s),
+                strikes: self.strikes + usize::from(p < s),
             },
             Sight::Change(_, _, _) => self,
-            Sight::End => self,
         }
     }
 }
 
 // The pass over the entries that counts them.
-fn counted(c: usize, m: usize, layer: &[u64], s: usize) -> Tally
-    requires { Held c m layer.now }
-    ensures { let L = layer_of c m layer.now in
+fn counted(layer: &Stored, s: usize) -> Tally
+    ensures { let L = edits layer.now in
         (result.adds ≡ count (add_up_to s) L) × (result.strikes ≡ count (strike_before s) L) }
 {
     let to = s as u64;
-    let mut k = Cursor::first();
     let mut w = Tally {
         adds: 0,
         strikes: 0,
     };
-    while k.i < m {
-        w = w.with(entry::look(c, m, layer, k), to);
-        k = k.next(c);
+    for i in 0..layer.m {
+        w = w.with(layer.sight(i), to);
     }
     w
 }
 
 // The shift at base position s: the adds up to and including s, less the strikes before s.
-pub fn shift_at(c: usize, m: usize, layer: &[u64], s: usize) -> i64
-    requires { Held c m layer.now }
-    ensures { result ≡ shift (layer_of c m layer.now) s }
+pub fn shift_at(layer: &Stored, s: usize) -> i64
+    ensures { result ≡ shift (edits layer.now) s }
 {
-    let w = counted(c, m, layer, s);
+    let w = counted(layer, s);
     less(w.adds, w.strikes)
 }

@@ -16,7 +16,7 @@ pub struct Told {
     pub value: usize,
 }
 
-// The same with a signed result.
+// The same with a signed result: a type of its own, since an export's struct can have no type parameter.
 #[repr(C)]
 #[derive(Clone, Copy)]
 pub struct ToldShift {

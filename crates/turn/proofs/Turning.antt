@@ -18,7 +18,7 @@ use Rattle.words.specs.Entry.{ADD, STRIKE}
 use Rattle.model.specs.Meaning.{key_of}
 use Rattle.head.specs.declared.Head.{Head}
 use Rattle.head.specs.Head.{head_of}
-use Rattle.entry.proofs.Looks.{left_step, left_end, room_here}
+use Rattle.entry.proofs.Looks.{left_step, left_end}
 use Rattle.form.proofs.Accepted.{Accepted, accepted}
 use Rattle.scan.proofs.ByKind.{add_kind, strike_kind}
 use Rattle.woven.specs.declared.Meets.{Meets}
@@ -68,9 +68,6 @@ module _ {c : ℕ} {K N : List ℕ} {mR : ℕ} {r : List ℕ} {mW : ℕ} {w name
       abbrev F : Entry
       F = entry_at c (k.j * (c + 2)) w
 
-      pub upper_room : k.j * (c + 2) + (c + 2) ≤ length w
-      upper_room = room_here c mW k.j w up.held l
-
       upper_left : drop k.j W ≡ edit_of F ∷ drop (k.j + 1) W
       upper_left = left_step c mW k.j w l
 
@@ -84,9 +81,6 @@ module _ {c : ℕ} {K N : List ℕ} {mR : ℕ} {r : List ℕ} {mW : ℕ} {w name
       module _ (h : k.i < mR) where
         abbrev E : Entry
         E = entry_at c (k.i * (c + 2)) r
-
-        pub lower_room : k.i * (c + 2) + (c + 2) ≤ length r
-        lower_room = room_here c mR k.i r low.held h
 
         pub lower_keyed : Keyed (head_of E) (length K)
         lower_keyed = head_keyed E c (length K) (sound_here low k.i h)

@@ -6,7 +6,7 @@ ghost use Rattle.model.specs.Raw.{layer_of};
 ghost use Rattle.over.specs.Over.{over};
 ghost use Rattle.turn.specs.Turn.{outset, upper_at, turn_of, Both, Walked};
 
-use entry::Cursor;
+use over::Stack;
 use words::Entry;
 use woven::Meets;
 
@@ -81,39 +81,30 @@ fn upper_at(p: u64, k: Place) -> Turn
 }
 
 // The next turn of the walk, which stands before an entry of the upper layer; its entries concern the keys `names`.
-pub fn next(
-    c: usize,
-    keys: &[u64],
-    names: &[u64],
-    mr: usize,
-    r: &[u64],
-    mw: usize,
-    w: &[u64],
-    k: Place,
-) -> Turn
-    requires { let K = keys.now in let N = over c keys.now mr r.now in
-        Both c K N mr r.now mw w.now names.now
-        × Walked K N (layer_of c mr r.now) (layer_of c mw w.now) k × (k.j < mw) }
-    ensures { let K = keys.now in let N = over c keys.now mr r.now in
-        result ≡ turn_of K N k (drop k.i (layer_of c mr r.now)) (drop k.j (layer_of c mw w.now)) }
+pub fn next(s: &Stack, names: &[u64], k: Place) -> Turn
+    requires { let S = s.now in let K = S.keys.now in let N = over S.c K S.mr S.r.now in
+        Both S.c K N S.mr S.r.now S.mw S.w.now names.now
+        × Walked K N (layer_of S.c S.mr S.r.now) (layer_of S.c S.mw S.w.now) k × (k.j < S.mw) }
+    ensures { let S = s.now in let K = S.keys.now in let N = over S.c K S.mr S.r.now in
+        result ≡ turn_of K N k (drop k.i (layer_of S.c S.mr S.r.now)) (drop k.j (layer_of S.c S.mw S.w.now)) }
 {
     let i = k.i;
     let j = k.j;
-    let bt = j * (c + 2);
-    let upper = entry::head_at(c, bt, w);
+    let above = s.upper();
+    let upper = above.head(j);
     let there = rebase(upper.pos, k.adds, k.strikes);
-    if mr <= i {
+    if s.mr <= i {
         return upper_at(there, k);
     }
-    let lower = entry::head_at(c, i * (c + 2), r);
-    match meet::meets(lower, meet::key_of(lower, keys), upper, names[j]) {
+    let lower = s.lower().head(i);
+    match meet::meets(lower, meet::key_of(lower, s.keys), upper, names[j]) {
         Meets::Lower => Turn {
             puts: Some(Puts::AsItIs),
             to: Place {
                 i: i + 1,
                 m: k.m + 1,
-                adds: k.adds + entry::one_if(lower.kind == Entry::ADD),
-                strikes: k.strikes + entry::one_if(lower.kind == Entry::STRIKE),
+                adds: k.adds + usize::from(lower.kind == Entry::ADD),
+                strikes: k.strikes + usize::from(lower.kind == Entry::STRIKE),
                 ..k
             },
         },
@@ -133,7 +124,7 @@ pub fn next(
             },
         },
         Meets::Patch => {
-            let n = meet::changes_ahead(c, upper.pos, mw, w, Cursor { i: j, at: bt });
+            let n = meet::changes_ahead(&above, upper.pos, j);
             Turn {
                 puts: Some(Puts::Changed),
                 to: Place {

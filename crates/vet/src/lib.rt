@@ -1,49 +1,43 @@
 // Form and fit in one pass over a layer.
 #![tactic(auto)]
 
-ghost use Rattle.model.specs.Raw.{Held};
 ghost use Rattle.vet.specs.Vetted.{Vetted};
 
+use entry::Stored;
+use head::Head;
+use scan::Scan;
 use words::Entry;
 
-// Form and fit in one pass over the m entries, up to the first at fault with either.
-// The kind before an entry is kept twice: before the first stands, as it were, for form an add (q), which anything may follow, and for fit
-// none (r), so that an add of key 0 may come first.
-pub fn form_and_fit(c: usize, m: usize, layer: &[u64], keys: &[u64]) -> scan::Scan
-    requires { Held c m layer.now }
-    ensures { Vetted c m layer.now keys.now result.place result.adds result.strikes }
+// Form and fit in one pass over the entries, up to the first at fault with either.
+// The head before an entry is kept twice: before the first stands, as it were, for form an add, which anything may follow,
+// and for fit a change, so that an add of key 0 may come first.
+pub fn form_and_fit(layer: &Stored, keys: &[u64]) -> Scan
+    ensures { let l = layer.now in
+        Vetted l.c l.m l.numbers.now keys.now result.place result.adds result.strikes }
 {
     let n = keys.len();
-    let mut i: usize = 0;
-    let mut at: usize = 0;
-    let mut p: u64 = 0;
-    let mut q = Entry::ADD;
-    let mut r: u64 = 0;
-    let mut u: u64 = 0;
-    let mut adds: usize = 0;
-    let mut strikes: usize = 0;
-    while i < m {
-        let s = layer[at];
-        let k = layer[at + 1];
-        let v = layer[at + 2];
-        if !(scan::alone_good(c, n, at, layer) & scan::follows(p, q, s, k)) {
-            break;
+    let mut seen = Scan::first();
+    let mut form = Head {
+        pos: 0,
+        kind: Entry::ADD,
+        first: 0,
+    };
+    let mut fit = Head {
+        pos: 0,
+        kind: 0,
+        first: 0,
+    };
+    for i in 0..layer.m {
+        let e = layer.head(i);
+        if !(scan::alone_good(n, layer, i) & scan::follows(form, e)) {
+            return seen;
         }
-        if !suit::fits_after(c, m, i, at, layer, keys, p, r, u) {
-            break;
+        if !suit::fits_after(layer, i, keys, fit) {
+            return seen;
         }
-        adds += entry::one_if(k == Entry::ADD);
-        strikes += entry::one_if(k == Entry::STRIKE);
-        p = s;
-        q = k;
-        r = k;
-        u = v;
-        at += c + 2;
-        i += 1;
+        seen = seen.with(e.kind);
+        form = e;
+        fit = e;
     }
-    scan::Scan {
-        place: i,
-        adds,
-        strikes,
-    }
+    seen
 }

@@ -10,7 +10,6 @@ use Rattle.std.specs.Prelude.{Some, None, Ok, Err}
 use Rattle.std.specs.Result.{result_ok}
 use Rattle.order.specs.Lists.{any}
 use Rattle.order.proofs.Tests.{impossible}
-use Rattle.words.specs.declared.Refusal.{Refusal}
 use Rattle.model.specs.Raw.{layer_of}
 use Rattle.model.specs.Read.{touches, Part, whole_base, buffer_front, empty_base}
 use Rattle.model.specs.Calls.{read_answer, seen, view_part}

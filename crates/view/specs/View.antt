@@ -1,16 +1,15 @@
 -- What shows in a column; and what the viewer hands back: which of the two slices, how much of it, and where it lies.
-use Rattle.std.specs.Prelude.{◌≡◌, Bool, true, false, List, ℕ, eqb, Option, Some, None}
+use Rattle.std.specs.Prelude.{◌≡◌, Bool, true, List, ℕ, eqb, Option, Some, None}
 use Rattle.std.specs.Borrow.{Bor}
 use Rattle.model.specs.Read.{Part, whole_base, buffer_front, empty_base}
 use Rattle.model.specs.Calls.{part_numbers}
 use Rattle.entry.specs.declared.Sight.{Sight}
-use Rattle.entry.specs.declared.Sight.TheVariants.{End, Add, Strike, Change}
+use Rattle.entry.specs.declared.Sight.TheVariants.{Add, Strike, Change}
 use Rattle.view.specs.declared.Seen.{Seen}
 use Rattle.view.specs.declared.Seen.TheVariants.{Base, Front}
 
--- what a look found shows in column j: an add, a strike, a change of column j
+-- what an entry does shows in column j: an add, a strike, a change of column j
 abbrev pub shows : ℕ → Sight → Bool
-shows j End = false
 shows j (Add s k) = true
 shows j (Strike s k) = true
 shows j (Change s i v) = eqb j i

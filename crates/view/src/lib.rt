@@ -3,19 +3,18 @@
 
 ghost use Rattle.std.specs.Prelude.{◌≡◌, length};
 ghost use Rattle.order.specs.Lists.{any};
-ghost use Rattle.model.specs.Raw.{Held, layer_of};
+ghost use Rattle.entry.specs.Look.{edits};
 ghost use Rattle.model.specs.Read.{touches};
 ghost use Rattle.model.specs.Calls.{view_part};
 ghost use Rattle.view.specs.View.{shows, Handed, seen_as, seen_number, seen_value};
 
-use entry::{Cursor, Sight};
+use entry::{Sight, Stored};
 
-// What a look found shows in column j: an add, a strike, a change of column j.
+// What an entry does shows in column j: an add, a strike, a change of column j.
 fn shows(j: u64, found: Sight) -> bool
     ensures { result ≡ shows j found }
 {
     match found {
-        Sight::End => false,
         Sight::Add(_, _) => true,
         Sight::Strike(_, _) => true,
         Sight::Change(_, i, _) => j == i,
@@ -23,16 +22,13 @@ fn shows(j: u64, found: Sight) -> bool
 }
 
 // Whether some entry shows in column j.
-fn touched(c: usize, m: usize, layer: &[u64], j: usize) -> bool
-    requires { Held c m layer.now }
-    ensures { result ≡ any (touches j) (layer_of c m layer.now) }
+fn touched(layer: &Stored, j: usize) -> bool
+    ensures { result ≡ any (touches j) (edits layer.now) }
 {
-    let mut k = Cursor::first();
-    while k.i < m {
-        if shows(j as u64, entry::look(c, m, layer, k)) {
+    for i in 0..layer.m {
+        if shows(j as u64, layer.sight(i)) {
             return true;
         }
-        k = k.next(c);
     }
     false
 }
@@ -78,7 +74,12 @@ pub fn view_part(
         result ≡ seen_as (length B) (view_part c m layer.now B j len) }
 {
     let rows = read::answer(c, m, layer, base, j, len).ok()?;
-    if touched(c, m, layer, j) {
+    let stored = Stored {
+        c,
+        m,
+        numbers: layer,
+    };
+    if touched(&stored, j) {
         return Some(Seen::Front(rows));
     }
     Some(Seen::Base(base.len()))

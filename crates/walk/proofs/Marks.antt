@@ -1,7 +1,6 @@
 -- A mark in a layer: one entry on, and where it parts the edits before e from the others.
 -- Assumes nothing.
 use Prim.Native.Nat.{ℕ, ◌+◌, ◌≤◌, ◌<◌}
-use native.Mathlib.Nat.{zero-mul}
 use native.Mathlib.Omega.{arith}
 use mathlib.Core.Path.{◌≡◌, refl, sym, ap, ◌∙◌}
 use mathlib.Core.Logic.{◌⊎◌, ⊎_elim}
@@ -10,13 +9,7 @@ use mathlib.Core.List.Memᴰ.{append_cases}
 use mathlib.Core.List.Memᴰ.{cases_cons}
 use mathlib.Core.List.Memᴰ.{eq_of_singleton}
 use mathlib.Core.List.Memᴰ.{not-nil}
-use mathlib.Core.List.{
-  List,
-  [],
-  ◌∷◌,
-  ◌++◌,
-  Memᴰ as Mem,
-}
+use mathlib.Core.List.{[], ◌∷◌, ◌++◌, Memᴰ as Mem}
 use lib.ListN.{length, take, drop, take-append-drop, drop_of_length-le}
 use lib.Seq.{take-add, length-take-le}
 use lib.Dec.{eqb}
@@ -25,50 +18,48 @@ use Rattle.order.proofs.Tests.{not_passed}
 use Rattle.order.proofs.Counts.{count_append, count_same, count_zero, count_le}
 use Rattle.order.proofs.Splice.{pairs_drop}
 use Rattle.model.specs.Layer.{Edit, Layer, is_add, is_strike}
-use Rattle.model.specs.Raw.{Held, entry_at, edit_of, layer_of}
+use Rattle.model.specs.Raw.{edit_of}
 use Rattle.words.specs.Entry.{ADD, STRIKE}
 use Rattle.model.specs.Edits.{before}
 use Rattle.theory.proofs.Raw.{layer_length}
 use Rattle.theory.proofs.Edits.{before_trans}
-use Rattle.entry.specs.declared.Cursor.{Cursor}
-use Rattle.entry.specs.Look.{Placed}
-use Rattle.entry.proofs.Looks.{Here, left_step, room_here, after_placed}
+use Rattle.entry.specs.declared.slice.Stored.{Stored}
+use Rattle.entry.specs.Look.{edits, entry_of}
+use Rattle.entry.proofs.Looks.{Here, left_step}
 use Rattle.walk.specs.declared.Mark.{Mark}
 use Rattle.walk.specs.Walk.{outset, past, Marks, Early, Parted, InOrder}
 
--- the entry at a cursor is an edit of the layer, and lies within the slice
-module _ (c m : ℕ) (ys : List ℕ) (k : Cursor) (p : Placed c k) (h : k.i < m) where
-  pub entry_here : Here (layer_of c m ys) k.i (edit_of (entry_at c k.at ys))
-  entry_here = record { below = omega (arith, layer_length c m ys); split = rw p (left_step c m k.i ys h) }
-
-  pub entry_room : Held c m ys → k.at + (c + 2) ≤ length ys
-  entry_room H = omega (arith, p, room_here c m k.i ys H h)
+-- an entry of a stored layer is an edit of it
+pub entry_here : (l : Stored) (i : ℕ) → i < l.m → Here (edits l) i (edit_of (entry_of l i))
+entry_here l i h = record {
+  below = omega (arith, layer_length l.c l.m l.numbers.now);
+  split = left_step l.c l.m i l.numbers.now h;
+}
 
 -- the first edits of a layer, and one more
 take_next : {L : Layer} {i : ℕ} {d : Edit} → Here L i d → take (i + 1) L ≡ take i L ++ (d ∷ [])
 take_next {L} {i} h = take-add i 1 L ∙ rw h.split
 
-pub marks_outset : (c : ℕ) (L : Layer) → Marks c L outset
-marks_outset c L = record { placed = sym (zero-mul (c + 2)); within = omega arith; adds = refl; strikes = refl }
+pub marks_outset : (L : Layer) → Marks L outset
+marks_outset L = record { within = omega arith; adds = refl; strikes = refl }
 
-module _ {c : ℕ} {L : Layer} {k : Mark} (K : Marks c L k) where
+module _ {L : Layer} {k : Mark} (K : Marks L k) where
   -- as many as there are entries, at most
   pub few : (k.adds ≤ length L) × (k.strikes ≤ length L)
   few =
-      let t = length-take-le k.here.i L K.within in (
-        omega (arith, K.adds, K.within, t, count_le is_add (take k.here.i L)),
-        omega (arith, K.strikes, K.within, t, count_le is_strike (take k.here.i L)),
+      let t = length-take-le k.i L K.within in (
+        omega (arith, K.adds, K.within, t, count_le is_add (take k.i L)),
+        omega (arith, K.strikes, K.within, t, count_le is_strike (take k.i L)),
       )
 
-  counted : {d : Edit} → Here L k.here.i d → (f : Edit → Bool)
-      → count f (take (k.here.i + 1) L) ≡ count f (take k.here.i L) + one (f d)
+  counted : {d : Edit} → Here L k.i d → (f : Edit → Bool)
+      → count f (take (k.i + 1) L) ≡ count f (take k.i L) + one (f d)
   counted {d} h f =
-      ap (count f) (take_next h) ∙ (count_append f (take k.here.i L) (d ∷ []) ∙ omega arith)
+      ap (count f) (take_next h) ∙ (count_append f (take k.i L) (d ∷ []) ∙ omega arith)
 
-  pub marks_past : (kind : ℕ) {d : Edit} → Here L k.here.i d → eqb kind ADD ≡ is_add d → eqb kind STRIKE ≡ is_strike d
-      → Marks c L (past c kind k)
+  pub marks_past : (kind : ℕ) {d : Edit} → Here L k.i d → eqb kind ADD ≡ is_add d → eqb kind STRIKE ≡ is_strike d
+      → Marks L (past kind k)
   marks_past kind h a s = record {
-    placed = after_placed c k.here K.placed;
     within = omega (arith, h.below);
     adds = omega (arith, K.adds, ap one a, counted h is_add);
     strikes = omega (arith, K.strikes, ap one s, counted h is_strike);

@@ -5,32 +5,32 @@ use Rattle.order.specs.Lists.{one, count}
 use Rattle.order.proofs.Pairs.{AllPairs}
 use Rattle.model.specs.Row.{Row, key}
 use Rattle.model.specs.Layer.{Edit, at, add, Layer, position, is_add, is_strike}
-use Rattle.model.specs.Raw.{Held, entry_at, edit_of, layer_of}
+use Rattle.model.specs.Raw.{entry_at, edit_of}
 use Rattle.words.specs.Entry.{ADD, STRIKE}
 use Rattle.model.specs.Edits.{before}
 use Rattle.words.specs.declared.Rule.{Rule}
 use Rattle.model.specs.Conflict.{clash}
 use Rattle.model.specs.Move.{moved}
-use Rattle.entry.specs.Look.{first, after, Placed}
+use Rattle.entry.specs.declared.slice.Stored.{Stored}
+use Rattle.entry.specs.Look.{edits}
 use Rattle.walk.specs.declared.Mark.{Mark}
 
 -- a mark at the first entry, and one past an entry of this kind
 abbrev pub outset : Mark
-outset = record { here = first; adds = 0; strikes = 0 }
+outset = record { i = 0; adds = 0; strikes = 0 }
 
-abbrev pub past : ℕ → ℕ → Mark → Mark
-past c kind k = record {
-  here = after c k.here;
+abbrev pub past : ℕ → Mark → Mark
+past kind k = record {
+  i = k.i + 1;
   adds = k.adds + one (eqb kind ADD);
   strikes = k.strikes + one (eqb kind STRIKE);
 }
 
 -- the mark stands at an entry of L, or at its end, with the adds and strikes before it
-pub record Marks (c : ℕ) (L : Layer) (k : Mark) : Type 0 where
-  pub placed : Placed c k.here
-  pub within : k.here.i ≤ length L
-  pub adds : k.adds ≡ count is_add (take k.here.i L)
-  pub strikes : k.strikes ≡ count is_strike (take k.here.i L)
+pub record Marks (L : Layer) (k : Mark) : Type 0 where
+  pub within : k.i ≤ length L
+  pub adds : k.adds ≡ count is_add (take k.i L)
+  pub strikes : k.strikes ≡ count is_strike (take k.i L)
 
 -- the first i edits of L stand before e; and no other does
 abbrev pub Early : Layer → ℕ → Edit → Type 0
@@ -55,13 +55,15 @@ pub record Matched (X Y : Layer) : Type 0 where
   pub theirs : InOrder Y
   pub level : (p s : ℕ) (q r : Row) → Mem (at p (add q)) X → Mem (at s (add r)) Y → key q ≡ key r → p ≡ s
 
--- the new positions of X's first i entries, moved past Y
-abbrev pub Positions : ℕ → List ℕ → Layer → ℕ → List ℕ → Type 0
-Positions c xs Y i to = (j : ℕ) → j < i → get_or to j 0 ≡ position (moved Y (edit_of (entry_at c (j * (c + 2)) xs)))
+-- the new positions of X's first i entries, moved past Y, where X's entries stand in xs
+abbrev pub PositionsIn : ℕ → List ℕ → Layer → ℕ → List ℕ → Type 0
+PositionsIn c xs Y i to = (j : ℕ) → j < i → get_or to j 0 ≡ position (moved Y (edit_of (entry_at c (j * (c + 2)) xs)))
 
--- two slices that hold such layers, and X's entries stand at rows of a base
-pub record Movable (c mx : ℕ) (xs : List ℕ) (my : ℕ) (ys : List ℕ) : Type 0 where
-  pub mine : Held c mx xs
-  pub theirs : Held c my ys
-  pub matched : Matched (layer_of c mx xs) (layer_of c my ys)
-  pub based : (e : Edit) → Mem e (layer_of c mx xs) → position e ≤ 4096
+-- the same of a stored layer X
+abbrev pub Positions : Stored → Layer → ℕ → List ℕ → Type 0
+Positions x = PositionsIn x.c x.numbers.now
+
+-- two stored layers that are so, and X's entries stand at rows of a base
+pub record Movable (x y : Stored) : Type 0 where
+  pub matched : Matched (edits x) (edits y)
+  pub based : (e : Edit) → Mem e (edits x) → position e ≤ 4096

@@ -3,16 +3,17 @@
 use mathlib.Core.Path.{◌≡◌, refl, ◌∙◌}
 use mathlib.Core.Bool.{Bool, true, false, cond}
 use mathlib.Core.List.{List, [], ◌∷◌}
-use Prim.Native.Nat.{ℕ, ◌+◌}
+use Prim.Native.Nat.{ℕ, ◌+◌, ◌≤◌}
 use lib.ListN.{length, drop, set, drop_of_length-le}
 use lib.Dec.{eqb}
-use borrow.Author.Tests.{eq-eqb, ne_eqb}
+use borrow.Author.Tests.{eq-eqb}
 use Rattle.model.specs.Cell.{put}
 use Rattle.model.specs.Layer.{add, strike, change, at, Layer}
 use Rattle.theory.proofs.Cell.{put_length}
-use Rattle.entry.specs.declared.Sight.TheVariants.{End, Add, Strike, Change}
+use Rattle.entry.specs.declared.Sight.TheVariants.{Change}
+use Rattle.std.specs.Prelude.{Some}
 use Rattle.entry.specs.Look.{look_of}
-use Rattle.entry.proofs.Looks.{look_end, look_add, look_strike, look_change}
+use Rattle.entry.proofs.Looks.{look_change}
 use Rattle.woven.specs.Woven.{patched}
 
 -- a row keeps its length
@@ -28,19 +29,10 @@ patched_length p (at s (change j e) ∷ U) row = by (eqb s p) (patched_length p 
     by false h = refl
 
 module _ (p : ℕ) (L : Layer) (i : ℕ) (row : List ℕ) where
-  pub patch_end : look_of (drop i L) ≡ End → patched p (drop i L) row ≡ row
-  patch_end h = rw (drop_of_length-le L {i = i} (look_end L i h))
+  pub patch_end : length L ≤ i → patched p (drop i L) row ≡ row
+  patch_end h = rw (drop_of_length-le L {i = i} h)
 
-  pub patch_add : (s k : ℕ) → look_of (drop i L) ≡ Add s k → patched p (drop i L) row ≡ row
-  patch_add s k h = rw (look_add L i s k h).1.split
-
-  pub patch_strike : (s k : ℕ) → look_of (drop i L) ≡ Strike s k → patched p (drop i L) row ≡ row
-  patch_strike s k h = rw (look_strike L i s k h).split
-
-  module _ (s j v : ℕ) (h : look_of (drop i L) ≡ Change s j v) where
-    pub patch_other : (s ≡ p → ⊥) → patched p (drop i L) row ≡ row
-    patch_other n = rw ((look_change L i s j v h).split, ne_eqb s p n)
-
-    pub patch_on : s ≡ p → patched p (drop i L) row ≡ patched p (drop (i + 1) L) (set row j v)
-    unfolding put
-    patch_on e = rw ((look_change L i s j v h).split, eq-eqb s p e)
+  pub patch_on : (s j v : ℕ) → look_of (drop i L) ≡ Some (Change s j v) → s ≡ p
+      → patched p (drop i L) row ≡ patched p (drop (i + 1) L) (set row j v)
+  unfolding put
+  patch_on s j v h e = rw ((look_change L i s j v h).split, eq-eqb s p e)

@@ -2,7 +2,7 @@
 -- Assumes nothing.
 use mathlib.Core.Path.{◌≡◌, refl, sym, ap, ◌∙◌}
 use mathlib.Core.Bool.{Bool, true, false, ◌&&◌}
-use mathlib.Core.List.{List, [], ◌∷◌, append-nil}
+use mathlib.Core.List.{List, [], ◌∷◌, append-nil, Memᴰ as Mem}
 use Prim.Native.Nat.{ℕ, ◌+◌, ◌*◌, ◌≤◌, ◌<◌}
 use native.Mathlib.Nat.{zero-mul, suc-mul, add-mul, mul-le-mul}
 use native.Mathlib.Omega.{arith}
@@ -15,7 +15,6 @@ use Rattle.model.specs.Cell.{CellEdit}
 use Rattle.model.specs.Layer.{add, change, Edit, at, Layer, position}
 use Rattle.model.specs.Raw.{entry_at, entries_of, edit_of, layer_of, numbers_of, flat}
 use Rattle.words.specs.Entry.{ADD, STRIKE}
-use Rattle.theory.proofs.Raw.{small}
 use Rattle.theory.proofs.Edits.{set_over}
 use Rattle.entry.proofs.Looks.{entries_step, left_step, left_end, room_here}
 use Rattle.form.proofs.Accepted.{Accepted, accepted}
@@ -29,7 +28,7 @@ use Rattle.turn.specs.declared.Puts.{Puts}
 use Rattle.turn.specs.declared.Puts.TheVariants.{AsItIs, UpperAt, Changed, Fused}
 use Rattle.turn.specs.Turn.{left, Takes}
 use Rattle.turn.proofs.Turning.{first_in}
-use Rattle.weave.specs.Written.{Row, Leaves}
+use Rattle.weave.specs.Written.{Leaves}
 use Rattle.weave.proofs.Patching.{patched_length}
 
 -- the numbers of one edit
@@ -87,24 +86,14 @@ module _ {write : Bool} {c mR : ℕ} {r : List ℕ} {mW : ℕ} {w : List ℕ} {k
   pub up : Accepted c g.upper.over mW w g.upper.rows
   up = accepted c g.upper.over mW w g.upper.rows g.upper.form
 
-  pub lower_off : k.i * (c + 2) ≤ 5120
-  lower_off = small {m = k.i} {c = c} (omega (arith, g.lower_upto, low.held.entries)) low.held.columns
-
-  pub upper_off : k.j * (c + 2) ≤ 5120
-  upper_off = small {m = k.j} {c = c} (omega (arith, g.upper_upto, up.held.entries)) up.held.columns
-
   pub offset : k.m * (c + 2) ≤ 10240
   offset = mul-le-mul {n₁ = k.m} {m₁ = c + 2} {n₂ = 1024} {m₂ = 10} g.few (omega (arith, low.held.columns))
 
-  -- the changes that the upper layer goes on with are of columns of a row
-  pub row : Row c mW w (record { i = k.j; at = k.j * (c + 2) }) c
-  row = record {
-    held = up.held;
-    placed = refl;
-    upto = g.upper_upto;
-    columns = λ s j e q. ltb-true j c (and_r (leb 1 j) (ltb j c) (and_r (ltb s g.upper.over) (leb 1 j && ltb j c)
-        (up.each (at s (change j e)) q)));
-  }
+  -- the changes of the upper layer are of columns of a row
+  pub columns : (s j : ℕ) (e : CellEdit) → Mem (at s (change j e)) (layer_of c mW w) → j < c
+  columns s j e q =
+      ltb-true j c (and_r (leb 1 j) (ltb j c) (and_r (ltb s g.upper.over) (leb 1 j && ltb j c)
+      (up.each (at s (change j e)) q)))
 
 -- what is written from m entries on where the walk writes: the numbers of one entry
 pub record Entered (write : Bool) (c : ℕ) (L : Layer) (m len : ℕ) (ys : List ℕ) : Type 0 where
@@ -131,7 +120,7 @@ module _ (write : Bool) (c mR : ℕ) (r : List ℕ) (mW : ℕ) (w : List ℕ) (k
     pub lower_in : k.i < mR
     lower_in = inside k.i mR (λ h. rw (left_end c mR k.i r h) at g.takes)
 
-    pub lower_room : k.i * (c + 2) + (c + 2) ≤ length r
+    lower_room : k.i * (c + 2) + (c + 2) ≤ length r
     lower_room = room_here c mR k.i r (low g).held lower_in
 
     pub lower_put : Entered write c (left (Some AsItIs) (drop k.i R) (drop k.j W)) k.m len (E.pos ∷ E.kind ∷ E.vals)
@@ -150,7 +139,7 @@ module _ (write : Bool) (c mR : ℕ) (r : List ℕ) (mW : ℕ) (w : List ℕ) (k
     pub upper_in : k.j < mW
     upper_in = inside k.j mW (λ h. rw (left_end c mW k.j w h) at g.takes)
 
-    pub upper_room : k.j * (c + 2) + (c + 2) ≤ length w
+    upper_room : k.j * (c + 2) + (c + 2) ≤ length w
     upper_room = room_here c mW k.j w (up g).held upper_in
 
     pub upper_put : Entered write c (left (Some (UpperAt p)) (drop k.i R) (drop k.j W)) k.m len (p ∷ F.kind ∷ F.vals)
@@ -180,7 +169,7 @@ module _ (write : Bool) (c mR : ℕ) (r : List ℕ) (mW : ℕ) (w : List ℕ) (k
 
   -- the lower layer's added row with the upper's changes
   module _ (g : Leaves write c mR r mW w k (Some Changed) len) where
-    both_in : (k.i < mR) × (k.j < mW)
+    pub both_in : (k.i < mR) × (k.j < mW)
     both_in = both_there g (λ X h. h) (λ f Y h. h)
 
     pub both_room : (k.i * (c + 2) + (c + 2) ≤ length r) × (k.j * (c + 2) + (c + 2) ≤ length w)
@@ -213,10 +202,10 @@ module _ (write : Bool) (c mR : ℕ) (r : List ℕ) (mW : ℕ) (w : List ℕ) (k
 
   -- the upper layer's change over the lower's
   module _ (g : Leaves write c mR r mW w k (Some Fused) len) where
-    fused_in : (k.i < mR) × (k.j < mW)
+    pub fused_in : (k.i < mR) × (k.j < mW)
     fused_in = both_there g (λ X h. h) (λ f Y h. h)
 
-    pub fused_room : (k.i * (c + 2) + (c + 2) ≤ length r) × (k.j * (c + 2) + (c + 2) ≤ length w)
+    fused_room : (k.i * (c + 2) + (c + 2) ≤ length r) × (k.j * (c + 2) + (c + 2) ≤ length w)
     fused_room = room_there g (λ X h. h) (λ f Y h. h)
 
     pub fused_put : Entered write c (left (Some Fused) (drop k.i R) (drop k.j W)) k.m len (E.pos ∷ F.kind ∷ F.vals)

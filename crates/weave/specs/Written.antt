@@ -5,7 +5,8 @@ use Rattle.model.specs.Cell.{CellEdit}
 use Rattle.model.specs.Layer.{change, at, Layer}
 use Rattle.model.specs.Raw.{Held, layer_of, flat}
 use Rattle.model.specs.Calls.{form_answer}
-use Rattle.entry.specs.declared.Cursor.{Cursor}
+use Rattle.entry.specs.declared.slice.Stored.{Stored}
+use Rattle.entry.specs.Look.{edits}
 use Rattle.turn.specs.declared.Place.{Place}
 use Rattle.turn.specs.declared.Puts.{Puts}
 use Rattle.turn.specs.Turn.{left, Takes}
@@ -21,12 +22,10 @@ pub record PutIf (write : Bool) (ys old : List ℕ) (o : ℕ) (new : List ℕ) :
   pub wrote : write ≡ true → Put ys old o new
   pub kept : write ≡ false → new ≡ old
 
--- a layer whose changes are of a column of the row, and a cursor in it
-pub record Row (c m : ℕ) (xs : List ℕ) (from : Cursor) (width : ℕ) : Type 0 where
-  pub held : Held c m xs
-  pub placed : from.at ≡ from.i * (c + 2)
-  pub upto : from.i ≤ m
-  pub columns : (s j : ℕ) (e : CellEdit) → Mem (at s (change j e)) (layer_of c m xs) → j < width
+-- a layer whose changes are of a column of the row, and an entry's number in it
+pub record Row (l : Stored) (from : ℕ) (width : ℕ) : Type 0 where
+  pub upto : from ≤ l.m
+  pub columns : (s j : ℕ) (e : CellEdit) → Mem (at s (change j e)) (edits l) → j < width
 
 -- a layer is in form over so many rows
 pub record Formed (c m : ℕ) (xs : List ℕ) : Type 0 where

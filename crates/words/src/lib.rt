@@ -12,7 +12,8 @@ pub const MOST_ENTRIES: usize = 512;
 
 pub const MOST_ROWS: usize = 4096;
 
-// One entry of a layer: its position, its kind and its values, of which the first c count.
+// One entry of a layer: its position, its kind and its values, of which the first c count. A kind is a number, and no enum: it
+// is what C's memory holds, also where that is no kind, and a change's kind is its column.
 #[derive(Clone, Copy)]
 pub struct Entry {
     pub pos: u64,

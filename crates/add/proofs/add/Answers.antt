@@ -5,6 +5,7 @@ use mathlib.Core.Path.{◌≡◌}
 use Rattle.std.proofs.Common.{rules}
 use Rattle.std.specs.Prelude.{Err}
 use Rattle.landing.proofs.Known.{Known}
+use Rattle.plan.proofs.Answers.{passed_held}
 use Rattle.add.proofs.Answers.{
   add_not_wide,
   add_first,
@@ -26,6 +27,9 @@ pub returns-in_err-rows : goal.returns-in_err-rows
 returns-in_err-rows c =
     let e : c.from_residual.result ≡ Err c.in_err-rows.field-0.0 = search rules in
     add_first _ _ _ _ _ c.if-row-c.false c.ready.ensures c.in_err-rows.was _ e
+
+pub invariant_of-stored : goal.invariant_of-stored
+invariant_of-stored c = record { held = passed_held _ _ _ _ c.ready.ensures c.in_ok-rows.was }
 
 pub add-p-requires : goal.add-p-requires
 add-p-requires c = add_asks _ _ _ _ _ c.if-row-c.false c.ready.ensures c.in_ok-rows.was

@@ -29,10 +29,13 @@ returns-then-rows-r c =
           (omega (arith, c.if-rows-r.true, (known (goal.at.returns-then-rows-r c).In_ok-rows).shown)),
     )
 
+pub invariant_of-stored : goal.invariant_of-stored
+invariant_of-stored c = record { held = (known (goal.at.invariant_of-stored c).In_ok-rows).held }
+
 pub origin_of-requires : goal.origin_of-requires
 origin_of-requires c =
     let k = known (goal.at.origin_of-requires c).In_ok-rows in
-    (k.held, k.base, k.ordered, omega (arith, c.if-rows-r.false, k.shown))
+    (k.base, k.ordered, omega (arith, c.if-rows-r.false, k.shown))
 
 pub returns : goal.returns
 returns c =

@@ -5,5 +5,5 @@ use Rattle.blocks.proofs.close.Goals as goal
 
 pub returns : goal.returns
 returns c =
-    let v = c.end_input-last in
-    closed_text v.new.table _ _ _ _ v.ensures.0 v.ensures.1 c.finish.ensures
+    let v = c.end_input.ensures in
+    closed_text v.0 v.1 c.finish.ensures

@@ -3,6 +3,7 @@
 use mathlib.Core.Path.{◌≡◌}
 use Rattle.std.proofs.Common.{rules}
 use Rattle.std.specs.Prelude.{Err}
+use Rattle.plan.proofs.Answers.{passed_held}
 use Rattle.change.proofs.Answers.{
   change_no_column,
   change_first,
@@ -31,6 +32,9 @@ pub returns-then-j-eq0 : goal.returns-then-j-eq0
 returns-then-j-eq0 c =
     change_key _ _ _ _ _ _ _ c.if-c-j.false c.ready.ensures c.in_ok-rows.was c.if-rows-r.false c.if-j-eq0.true _
     c.refused-then-j-eq0.ensures
+
+pub invariant_of-stored : goal.invariant_of-stored
+invariant_of-stored c = record { held = passed_held _ _ _ _ c.ready.ensures c.in_ok-rows.was }
 
 pub change-x-requires : goal.change-x-requires
 change-x-requires c =

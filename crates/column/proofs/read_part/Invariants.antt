@@ -1,13 +1,9 @@
 -- `column::read_part` meets its contract: the loop over the entries keeps `Going`; then the rest of the base is shown.
 -- Assumes nothing.
-use Prim.Native.Nat.{◌-◌}
+use Rattle.entry.specs.Look.{edits}
 use Rattle.column.proofs.Going.{Going}
 use Rattle.column.proofs.read_part.Given as goal
 
 abbrev pub invariant-loop-k : goal.invariant-loop-k
 invariant-loop-k l =
-    Going l.c l.m l.layer l.base l.j l.initial.out l.out l.k l.s l.o
-
-abbrev pub decreases-loop-k : goal.decreases-loop-k
-decreases-loop-k l =
-    l.m - l.k.i
+    Going (edits l.layer) l.base l.j l.initial.out l.out l.k l.s l.o

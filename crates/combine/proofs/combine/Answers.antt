@@ -14,7 +14,7 @@ use Rattle.over.specs.Over.{over, Named}
 use Rattle.turn.specs.Turn.{Both}
 use Rattle.stacked.specs.Checked.{both_answer, NamedIf}
 use Rattle.stacked.proofs.Answers.{both_refused}
-use Rattle.combine.proofs.Joining.{low, both, whole, fit, short, there, enough, written_whole, kept}
+use Rattle.combine.proofs.Joining.{low, up, both, whole, fit, short, there, enough, written_whole, kept}
 use Rattle.combine.proofs.combine.Goals as goal
 use Rattle.combine.proofs.combine.Goals.{After-more_than, In_ok-check_both}
 
@@ -37,6 +37,11 @@ ready : (c : In_ok-check_both) → let a = c.args in
     Both a.c a.keys.now (over a.c a.keys.now a.mr a.r.now) a.mr a.r.now a.mw a.w.now (names c)
 ready c = both (fit _ _ _ _ _ _ c.args.out.now _ (done c)) (names c) (named c)
     (omega (arith, c.check_both.auto.names))
+
+pub invariant_of-s : goal.invariant_of-s
+invariant_of-s c =
+    let f = fit _ _ _ _ _ _ c.args.out.now _ (done (goal.at.invariant_of-s c).In_ok-check_both) in
+    record { lower_held = (low f).held; upper_held = (up f).held }
 
 pub room_of-room-requires : goal.room_of-room-requires
 room_of-room-requires c =

@@ -13,23 +13,24 @@ use Rattle.woven.proofs.Walking.{walk_most}
 use Rattle.turn.proofs.Turning.{low, up}
 use Rattle.combine.proofs.more_than.Goals as goal
 
-pub overflow_add-mr : goal.overflow_add-mr
-overflow_add-mr c =
+pub overflow_add-s : goal.overflow_add-s
+overflow_add-s c =
     omega (arith, (low c.requires).held.entries, (up c.requires).held.entries)
 
-pub returns-then-mr-mw : goal.returns-then-mr-mw
-returns-then-mr-mw c =
+pub returns-then-s-room : goal.returns-then-s-room
+returns-then-s-room c =
     let a = c.args in
-    let R = layer_of a.c a.mr a.r.now in
-    let W = layer_of a.c a.mw a.w.now in
-    let K = a.keys.now in
-    let N = over a.c a.keys.now a.mr a.r.now in (
+    let s = a.s.now in
+    let R = layer_of s.c s.mr s.r.now in
+    let W = layer_of s.c s.mw s.w.now in
+    let K = s.keys.now in
+    let N = over s.c s.keys.now s.mr s.r.now in (
       sym (le-ltb a.room (length (woven_layer K N R W)) (omega (
         arith,
-        c.if-mr-mw.true,
+        c.if-s-room.true,
         walk_most K N 0 0 R W,
-        layer_length a.c a.mr a.r.now,
-        layer_length a.c a.mw a.w.now,
+        layer_length s.c s.mr s.r.now,
+        layer_length s.c s.mw s.w.now,
       ))),
       refl,
     )

@@ -5,10 +5,6 @@ use lib.ListN.{length}
 use Rattle.decimal.proofs.Digits.{Written}
 use Rattle.decimal.proofs.write_digits.Given as goal
 
-abbrev pub invariant-loop-rest : goal.invariant-loop-rest
-invariant-loop-rest l =
+abbrev pub invariant-loop-i : goal.invariant-loop-i
+invariant-loop-i l =
     (length l.out ≡ length l.initial.out) × Written l.x l.at l.initial.out l.out l.rest l.i
-
-abbrev pub decreases-loop-rest : goal.decreases-loop-rest
-decreases-loop-rest l =
-    l.rest

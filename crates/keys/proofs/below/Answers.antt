@@ -1,28 +1,16 @@
--- `keys::below` meets its contract: the number of keys below k stays between lo and hi.
+-- `keys::below` meets its contract: the keys below k stand in front.
 -- Assumes nothing.
-use native.Mathlib.Omega.{arith}
-use Prim.Native.Nat.{◌+◌, ◌-◌, ◌/◌}
-use Rattle.order.proofs.Counts.{count_le}
 use lib.Dec.{ltb}
-use Rattle.keys.proofs.Ranked.{past, within}
+use Rattle.std.proofs.Common.{rules}
+use Rattle.std.proofs.lemmas.List.Sorted.{IsPartitionPoint-from_clause, IsPartitionedBy-ltb}
+use Rattle.keys.proofs.Ranked.{falls_nowhere, below_point}
 use Rattle.keys.proofs.below.Goals as goal
 
-pub loop-lo-init : goal.loop-lo-init
-loop-lo-init c =
-    let a = c.args in
-    (omega arith, count_le (λ l. ltb l a.k) a.keys.now, omega arith)
-
-pub loop-lo-preserved-then-keys-mid : goal.loop-lo-preserved-then-keys-mid
-loop-lo-preserved-then-keys-mid c =
-    let a = c.args in
-    let f = past a.k a.keys.now c.requires (c.loop-lo.lo + (c.loop-lo.hi - c.loop-lo.lo) / 2) (omega arith) c.if-keys-mid.true in
-    (omega (arith, f), omega (arith, f), omega arith)
-
-pub loop-lo-preserved : goal.loop-lo-preserved
-loop-lo-preserved c =
-    let a = c.args in
-    let f = within a.k a.keys.now c.requires (c.loop-lo.lo + (c.loop-lo.hi - c.loop-lo.lo) / 2) (omega arith) c.if-keys-mid.false in
-    (omega (arith, f), omega (arith, f), omega arith)
-
 pub returns : goal.returns
-returns c = omega arith
+returns c =
+    let a = c.args in
+    let K = a.keys.now in
+    let f = c.partition_point.ensures in
+    below_point a.k K c.requires _ f.bound
+    (IsPartitionPoint-from_clause (λ y. ltb y a.k) _ _ f.partitioned
+    (IsPartitionedBy-ltb (λ x. x) K a.k (falls_nowhere K c.requires)) (λ b r q k. search rules))

@@ -2,14 +2,14 @@
 -- Assumes nothing.
 use mathlib.Core.Path.{◌≡◌}
 use Prim.Native.Nat.{◌-◌}
-use Rattle.model.specs.Raw.{layer_of}
+use Rattle.entry.specs.Look.{edits}
 use Rattle.mark.specs.Walk.{Marks}
 use Rattle.mark.proofs.seek.Given as goal
 
 abbrev pub invariant-loop-t : goal.invariant-loop-t
 invariant-loop-t l =
-    Marks l.c (layer_of l.c l.m l.layer) l.k × (l.k.row ≡ l.row)
+    Marks (edits l.layer) l.k × (l.k.row ≡ l.row)
 
 abbrev pub decreases-loop-t : goal.decreases-loop-t
 decreases-loop-t l =
-    l.m - l.k.i
+    l.layer.m - l.k.i

@@ -1,12 +1,8 @@
--- `numbers::go_on` is safe and ends, and the slice keeps its length.
+-- `numbers::go_on` is safe, and the slice keeps its length.
 -- Assumes nothing.
-use Rattle.std.proofs.Common.{◌≡◌, ◌-◌, ◌≤◌, length}
+use Rattle.std.proofs.Common.{◌≡◌, length}
 use Rattle.numbers.proofs.go_on.Given as goal
 
 abbrev pub invariant-loop-i : goal.invariant-loop-i
 invariant-loop-i l =
-    (length l.xs ≡ length l.initial.xs) × (l.start ≤ l.i)
-
-abbrev pub decreases-loop-i : goal.decreases-loop-i
-decreases-loop-i l =
-    length l.initial.xs - l.i
+    length l.xs ≡ length l.initial.xs

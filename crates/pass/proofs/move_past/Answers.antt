@@ -6,7 +6,6 @@ use Rattle.std.proofs.Common.{rules}
 use Rattle.std.specs.Prelude.{Ok, Err}
 use Rattle.model.specs.Raw.{layer_of}
 use Rattle.fit.proofs.Answers.{ready_form}
-use Rattle.walk.specs.Walk.{Movable}
 use Rattle.pair.proofs.Stages.{checked}
 use Rattle.pass.proofs.Sides.{Sides, movable}
 use Rattle.pass.proofs.Moving.{checked_refused, ready, clash_refused, rows_refused, passes}
@@ -23,11 +22,16 @@ done c = sym c.both_ready.ensures ∙ c.in_ok-rows.was
 sides : (c : In_ok-rows) → let a = c.args in Sides a.c a.keys.now a.mx a.x.now a.my a.y.now
 sides c = ready _ _ _ _ _ _ _ (done c)
 
-can-move : (c : In_ok-rows) → let a = c.args in Movable a.c a.mx a.x.now a.my a.y.now
-can-move c = movable _ _ _ _ _ _ (sides c)
+pub invariant_of-mine : goal.invariant_of-mine
+invariant_of-mine c = record { held = (ready_form (sides (goal.at.invariant_of-mine c).In_ok-rows).mine).held }
+
+pub invariant_of-theirs : goal.invariant_of-theirs
+invariant_of-theirs c = record { held = (ready_form (sides (goal.at.invariant_of-theirs c).In_ok-rows).theirs).held }
 
 pub first_clash-place-requires : goal.first_clash-place-requires
-first_clash-place-requires c = let m = can-move (goal.at.first_clash-place-requires c).In_ok-rows in (m, m.mine.entries)
+first_clash-place-requires c =
+    let S = sides (goal.at.first_clash-place-requires c).In_ok-rows in
+    (movable _ _ _ S.mine S.theirs, (ready_form S.mine).held.entries)
 
 pub returns-then-place-mx : goal.returns-then-place-mx
 returns-then-place-mx c =

@@ -1,7 +1,7 @@
 -- Striking a row number: of the base row or of the added entry behind it.
 -- Assumes nothing.
 use mathlib.Core.Path.{sym, ap, ◌∙◌}
-use Rattle.model.specs.Raw.{layer_of}
+use Rattle.entry.specs.Look.{edits}
 use Rattle.plan.specs.Moves.{strike_splice}
 use Rattle.plan.proofs.Answers.{may_look}
 use Rattle.plan.proofs.Planned.{of_base}
@@ -20,10 +20,9 @@ pub returns-in-Base : goal.returns-in-Base
 returns-in-Base c =
     let a = c.args in
     c.strike_base.ensures
-    ∙ ap (strike_splice a.keys.now (layer_of a.c a.m a.layer.now)) (sym c.in-Base.is ∙ c.origin_of.ensures)
+    ∙ ap (strike_splice a.keys.now (edits a.layer.now)) (sym c.in-Base.is ∙ c.origin_of.ensures)
 
 pub returns-in-Added : goal.returns-in-Added
 returns-in-Added c =
     let a = c.args in
-    c.out.ensures
-    ∙ ap (strike_splice a.keys.now (layer_of a.c a.m a.layer.now)) (sym c.in-Added.is ∙ c.origin_of.ensures)
+    c.out.ensures ∙ ap (strike_splice a.keys.now (edits a.layer.now)) (sym c.in-Added.is ∙ c.origin_of.ensures)

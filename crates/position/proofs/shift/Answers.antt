@@ -19,8 +19,8 @@ known c = accepted _ _ _ _ _ (sym c.check_layer.ensures ∙ c.in_ok-check_layer.
 pub returns-then-n-s : goal.returns-then-n-s
 returns-then-n-s c = c.refused.ensures ∙ shift_past _ _ _ _ _ (omega (arith, c.if-n-s.true))
 
-pub shift_at-requires : goal.shift_at-requires
-shift_at-requires c = (known (goal.at.shift_at-requires c).In_ok-check_layer).held
+pub invariant_of-stored : goal.invariant_of-stored
+invariant_of-stored c = record { held = (known (goal.at.invariant_of-stored c).In_ok-check_layer).held }
 
 pub returns : goal.returns
 returns c =

@@ -1,11 +1,8 @@
--- The lines read and the blocks left stay below 2^62 together.
+-- The lines read stay below 2^62.
 -- Assumes nothing.
-use Rattle.std.proofs.Common.{◌≤◌, ◌+◌, ◌*◌}
+use Rattle.std.proofs.Common.{◌≤◌, ◌*◌}
 use Rattle.feed.specs.Input.{Ready}
 use Rattle.print.proofs.main.Given as goal
 
-abbrev pub invariant-loop-left : goal.invariant-loop-left
-invariant-loop-left l = Ready 4096 l.fed × (l.fed.counts.lines + l.left * 4096 ≤ 4611686018427387904)
-
-abbrev pub decreases-loop-left : goal.decreases-loop-left
-decreases-loop-left l = l.left
+abbrev pub invariant-loop-turn : goal.invariant-loop-turn
+invariant-loop-turn l = Ready 4096 l.reader × (l.reader.counts.lines ≤ l.turn * 4096)

@@ -5,7 +5,7 @@ use lib.ListN.{length}
 use Rattle.std.proofs.Common.{rules}
 use Rattle.std.specs.Prelude.{Ok, Err}
 use Rattle.model.specs.Calls.{read_answer}
-use Rattle.read.proofs.Answers.{Finished, done, slice_after}
+use Rattle.read.proofs.Answers.{Finished, done, can_read, slice_after}
 use Rattle.read.proofs.read.Goals as goal
 use Rattle.read.proofs.read.Goals.{In_ok-answer}
 
@@ -20,8 +20,11 @@ finished : (c : In_ok-answer) → let a = c.args in
     Finished a.c a.m a.layer.now a.base.now a.j (length a.out.now) c.in_ok-answer.field-0
 finished c = done _ _ _ _ _ _ _ (sym (answered c))
 
+pub invariant_of-stored : goal.invariant_of-stored
+invariant_of-stored c = record { held = (finished (goal.at.invariant_of-stored c).In_ok-answer).held }
+
 pub read_part-requires : goal.read_part-requires
-read_part-requires c = (finished (goal.at.read_part-requires c).In_ok-answer).readable
+read_part-requires c = can_read _ _ _ _ _ (finished (goal.at.read_part-requires c).In_ok-answer)
 
 pub returns-in_err-answer : goal.returns-in_err-answer
 returns-in_err-answer c =

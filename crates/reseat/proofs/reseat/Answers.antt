@@ -1,5 +1,5 @@
--- A row that is shown goes and comes again with another number: its own changes nothing, one of another row is refused, else
--- both splices are entered.
+-- A row that is shown goes and comes again with another number: its own changes nothing, one of another row is refused,
+-- else both splices are entered.
 -- Assumes nothing.
 use native.Mathlib.Omega.{arith}
 use mathlib.Core.Path.{◌≡◌, sym, ap, ◌∙◌}
@@ -10,13 +10,28 @@ use Rattle.model.specs.Row.{key, columnwise}
 use Rattle.model.specs.Raw.{layer_of}
 use Rattle.model.specs.Read.{read}
 use Rattle.landing.proofs.Known.{known}
-use Rattle.reseat.proofs.Shown.{padded_length, own_key, row_wide, told, into_is, own_ends, shown_ends, Turned, in_layer, turned_ends}
+use Rattle.reseat.proofs.Shown.{
+  padded_length,
+  own_key,
+  row_wide,
+  told,
+  into_is,
+  own_ends,
+  shown_ends,
+  Turned,
+  in_layer,
+  turned_ends,
+}
 use Rattle.reseat.proofs.reseat.Goals as goal
 use Rattle.reseat.proofs.reseat.Goals.{Else-into, Else-own-g}
 
+pub invariant_of-stored : goal.invariant_of-stored
+invariant_of-stored c = record { held = (known c.requires.ready).acc.held }
+
 pub returns-then-own-g : goal.returns-then-own-g
 returns-then-own-g c =
-    own_ends c.requires c.args.g (sym (own_key c.requires c.args.g c.lift-lifted.result.row c.lift-lifted.ensures.1) ∙ c.if-own-g.true)
+    own_ends c.requires c.args.g
+    (sym (own_key c.requires c.args.g c.lift-lifted.result.row c.lift-lifted.ensures.1) ∙ c.if-own-g.true)
 
 -- it has another number
 other : (c : Else-own-g) → let a = c.args in
@@ -46,7 +61,8 @@ add-into-requires c =
 pub returns-then-into : goal.returns-then-into
 returns-then-into c =
     shown_ends c.requires c.args.g (other (goal.at.returns-then-into c).Else-own-g)
-    (sym (told c.requires c.args.g c.lift-lifted.result.row c.lift-lifted.ensures.1 c.add-into.result.shown c.add-into.ensures.0)
+    (sym (told c.requires c.args.g c.lift-lifted.result.row c.lift-lifted.ensures.1 c.add-into.result.shown
+    c.add-into.ensures.0)
     ∙ c.if-into.true) c.refused.result c.refused.ensures
 
 -- the row goes and comes again

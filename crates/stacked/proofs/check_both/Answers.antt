@@ -33,6 +33,13 @@ overflow_add-y c =
     let up = sym c.check-2.ensures ∙ c.in-Err.is in
     omega (arith, upper_place a.c a.keys.now a.mr a.r.now a.mw a.w.now ok c.in_ok-rows.rows low c.in-Err.y up)
 
+-- both layers are held
+pub invariant_of-s : goal.invariant_of-s
+invariant_of-s c = record {
+  lower_held = (accepted _ _ _ _ _ (sym c.check.ensures ∙ c.in_ok-rows.was)).held;
+  upper_held = (accepted _ _ _ _ _ (sym c.check-2.ensures ∙ c.in-Ok.is)).held;
+}
+
 pub fit_both-requires : goal.fit_both-requires
 fit_both-requires c =
     let ok = passed (goal.at.fit_both-requires c).Else-not-args_ok in

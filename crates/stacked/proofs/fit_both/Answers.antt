@@ -12,42 +12,44 @@ returns-then-not-ascend c =
     rw c.refused.ensures (keys_refused _ _ _ _ _ _ (sym c.ascend.ensures ∙ c.if-not-ascend.true), tt)
 
 pub fit_place-p-requires : goal.fit_place-p-requires
-fit_place-p-requires c = c.requires.0.lower
+fit_place-p-requires c = rw c.lower.ensures c.requires.0.lower
 
-pub returns-then-p-mr : goal.returns-then-p-mr
-returns-then-p-mr c =
-    rw c.refused-then-p-mr.ensures (
-      lower_refused _ _ _ _ _ _ (sym c.ascend.ensures ∙ c.if-not-ascend.false) _ c.fit_place-p.ensures c.if-p-mr.true,
+pub returns-then-p-s : goal.returns-then-p-s
+returns-then-p-s c =
+    rw c.refused-then-p-s.ensures (
+      lower_refused _ _ _ _ _ _ (sym c.ascend.ensures ∙ c.if-not-ascend.false) _
+          (rw c.lower.ensures at c.fit_place-p.ensures) c.if-p-s.true,
       tt,
     )
 
 pub fit_over-q-requires : goal.fit_over-q-requires
 fit_over-q-requires c =
     let f = c.requires.0 in
-    let a = c.args in
+    let s = c.args.s.now in
     record {
       lower = f.lower;
       shown = c.requires.1;
-      upper = subst (λ (n : ℕ). InForm a.c n a.mw a.w.now) (sym c.requires.1) f.upper;
+      upper = subst (λ (n : ℕ). InForm s.c n s.mw s.w.now) (sym c.requires.1) f.upper;
       room = omega (arith, c.requires.2, upper_few f);
     }
 
 -- the upper layer's place
 
 pub overflow_add-q : goal.overflow_add-q
-overflow_add-q c = omega (arith, c.if-q-mw.true, upper_few c.requires.0)
+overflow_add-q c = omega (arith, c.if-q-s.true, upper_few c.requires.0)
 
-pub returns-then-q-mw : goal.returns-then-q-mw
-returns-then-q-mw c =
-    rw c.refused-then-q-mw.ensures (
-      upper_refused _ _ _ _ _ _ (sym c.ascend.ensures ∙ c.if-not-ascend.false) _ c.fit_place-p.ensures c.if-p-mr.false _
-          c.fit_over-q.ensures.0 c.if-q-mw.true,
+pub returns-then-q-s : goal.returns-then-q-s
+returns-then-q-s c =
+    rw c.refused-then-q-s.ensures (
+      upper_refused _ _ _ _ _ _ (sym c.ascend.ensures ∙ c.if-not-ascend.false) _
+          (rw c.lower.ensures at c.fit_place-p.ensures) c.if-p-s.false _ c.fit_over-q.ensures.0 c.if-q-s.true,
       tt,
     )
 
 pub returns : goal.returns
 returns c = (
-  fits_done _ _ _ _ _ _ (sym c.ascend.ensures ∙ c.if-not-ascend.false) _ c.fit_place-p.ensures c.if-p-mr.false _
-      c.fit_over-q.ensures.0 c.if-q-mw.false,
-  λ j h. c.fit_over-q.ensures.1 j (omega (arith, c.if-q-mw.false, h)),
+  fits_done _ _ _ _ _ _ (sym c.ascend.ensures ∙ c.if-not-ascend.false) _
+      (rw c.lower.ensures at c.fit_place-p.ensures) c.if-p-s.false _
+      c.fit_over-q.ensures.0 c.if-q-s.false,
+  λ j h. c.fit_over-q.ensures.1 j (omega (arith, c.if-q-s.false, h)),
 )

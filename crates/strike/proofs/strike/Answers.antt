@@ -3,6 +3,7 @@
 use mathlib.Core.Path.{◌≡◌}
 use Rattle.std.proofs.Common.{rules}
 use Rattle.std.specs.Prelude.{Err}
+use Rattle.plan.proofs.Answers.{passed_held}
 use Rattle.strike.proofs.Answers.{strike_first, strike_no_row, strike_asks, strike_may, strike_enters}
 use Rattle.strike.proofs.strike.Goals as goal
 
@@ -13,6 +14,9 @@ returns-in_err-rows c =
 
 pub returns-then-rows-r : goal.returns-then-rows-r
 returns-then-rows-r c = strike_no_row _ _ _ _ _ c.ready.ensures c.in_ok-rows.was c.if-rows-r.true _ c.refused.ensures
+
+pub invariant_of-stored : goal.invariant_of-stored
+invariant_of-stored c = record { held = passed_held _ _ _ _ c.ready.ensures c.in_ok-rows.was }
 
 pub strike-p-requires : goal.strike-p-requires
 strike-p-requires c = strike_asks _ _ _ _ _ c.ready.ensures c.in_ok-rows.was c.if-rows-r.false

@@ -3,7 +3,6 @@
 use mathlib.Core.Path.{◌≡◌, refl, sym, ap, ◌∙◌}
 use Rattle.std.specs.Prelude.{Ok}
 use Rattle.std.specs.Result.{result_ok}
-use lib.ListN.{length}
 use Rattle.model.specs.Calls.{read_answer}
 use Rattle.read.proofs.Answers.{done}
 use Rattle.view.proofs.Viewing.{counted, front_viewed, base_viewed, none_viewed}
@@ -16,10 +15,9 @@ read_done : (c : In_ok-rows) → let a = c.args in
 read_done c =
     sym c.answer.ensures ∙ counted _ c.in_ok-rows.rows (sym c.ok.ensures.value ∙ c.in_ok-rows.was)
 
-pub touched-requires : goal.touched-requires
-touched-requires c =
-    let a = c.args in
-    (done a.c a.m a.layer.now a.base.now a.j a.len _ (read_done (goal.at.touched-requires c).In_ok-rows)).readable.held
+pub invariant_of-stored : goal.invariant_of-stored
+invariant_of-stored c =
+    record { held = (done _ _ _ _ _ _ _ (read_done (goal.at.invariant_of-stored c).In_ok-rows)).held }
 
 pub returns-then-touched : goal.returns-then-touched
 returns-then-touched c =

@@ -2,89 +2,73 @@
 -- Assumes nothing.
 use native.Mathlib.Omega.{arith}
 use mathlib.Core.Path.{◌≡◌, sym, ap, ◌∙◌}
-use Prim.Native.Nat.{ℕ}
+use Prim.Native.Nat.{ℕ, ◌<◌}
 use lib.Dec.{eqb}
-use Rattle.model.specs.Raw.{entry_at, edit_of, layer_of}
+use Rattle.model.specs.Raw.{edit_of}
 use Rattle.words.specs.Entry.{ADD, STRIKE}
 use Rattle.model.specs.Edits.{before}
 use Rattle.theory.proofs.Raw.{layer_length}
 use Rattle.head.specs.declared.Head.{Head}
 use Rattle.head.specs.Head.{seen}
 use Rattle.head.proofs.Heads.{head_before}
-use Rattle.entry.proofs.Looks.{Here, near}
+use Rattle.entry.specs.Look.{edits, entry_of}
+use Rattle.entry.proofs.Looks.{Here}
 use Rattle.scan.proofs.ByKind.{add_kind, strike_kind}
-use Rattle.walk.specs.declared.Mark.{Mark}
-use Rattle.walk.specs.Walk.{Marks}
-use Rattle.walk.proofs.Marks.{entry_here, entry_room, few, marks_past, early_next, parted_stop, parted_end}
+use Rattle.walk.proofs.Marks.{entry_here, few, marks_past, early_next, parted_stop, parted_end}
 use Rattle.walk.proofs.advance.Goals as goal
-use Rattle.walk.proofs.advance.Goals.{After-stands_before, In-loop-k}
+use Rattle.walk.proofs.advance.Goals.{After-stands_before}
 
--- in a turn: the entry at the mark, its room, and the test by the entry itself
+-- in a turn: the mark is at the entry of the turn, and the test is by the entry itself
 
-abbrev k : (c : In-loop-k) → Mark
-k c = c.loop-k.k
+below : (c : After-stands_before) → c.loop-i.k.i < c.args.layer.now.m
+below c = omega (arith, c.loop-i.invariant.0, c.loop-i-test.true)
 
-abbrev stands : (c : In-loop-k) → Marks c.args.c (layer_of c.args.c c.args.m c.args.layer.now) (k c)
-stands c = c.loop-k.invariant.0
-
-this : (c : In-loop-k) → Here (layer_of c.args.c c.args.m c.args.layer.now) (k c).here.i
-    (edit_of (entry_at c.args.c (k c).here.at c.args.layer.now))
-this c = entry_here _ _ _ (k c).here (stands c).placed c.loop-k-test.true
+this : (c : After-stands_before) → let l = c.args.layer.now in
+    Here (edits l) c.loop-i.k.i (edit_of (entry_of l c.loop-i.k.i))
+this c = entry_here c.args.layer.now c.loop-i.k.i (below c)
 
 judged : (c : After-stands_before) → let a = c.args in
-    c.stands_before.result ≡ before (edit_of (entry_at a.c c.loop-k.k.here.at a.layer.now)) (seen a.e)
+    c.stands_before.result ≡ before (edit_of (entry_of a.layer.now c.loop-i.k.i)) (seen a.e)
 judged c =
     let a = c.args in
     c.stands_before.ensures
-    ∙ (ap (λ (h : Head). before (seen h) (seen a.e)) c.head_at-d.ensures
-    ∙ head_before (entry_at a.c c.loop-k.k.here.at a.layer.now) (seen a.e))
-
-pub loop-k-init : goal.loop-k-init
-loop-k-init c = let p = c.requires in (p.2, p.3)
-
-pub head_at-d-requires : goal.head_at-d-requires
-head_at-d-requires c =
-    let p = c.requires in
-    (entry_room _ _ _ (k (goal.at.head_at-d-requires c).In-loop-k).here (stands (goal.at.head_at-d-requires c).In-loop-k).placed c.loop-k-test.true p.0, p.0.some)
+    ∙ (ap (λ (h : Head). before (seen h) (seen a.e)) c.head-d.ensures
+    ∙ (head_before (entry_of a.layer.now c.loop-i.i) (seen a.e)
+    ∙ ap (λ (n : ℕ). before (edit_of (entry_of a.layer.now n)) (seen a.e)) (sym c.loop-i.invariant.0)))
 
 pub returns-then-not-stands_before : goal.returns-then-not-stands_before
-returns-then-not-stands_before c = (
-  stands (goal.at.returns-then-not-stands_before c).In-loop-k,
-  parted_stop c.loop-k.invariant.1 c.requires.1 (this (goal.at.returns-then-not-stands_before c).In-loop-k)
-      (sym (judged (goal.at.returns-then-not-stands_before c).After-stands_before) ∙ c.if-not-stands_before.true),
-)
+returns-then-not-stands_before c =
+    let s = (goal.at.returns-then-not-stands_before c).After-stands_before in
+    let v = c.loop-i.invariant in
+    (v.1, parted_stop v.2 c.requires.0 (this s) (sym (judged s) ∙ c.if-not-stands_before.true))
 
 pub past-k-requires : goal.past-k-requires
 past-k-requires c =
-    let H = c.requires.0 in
-    let l = layer_length c.args.c c.args.m c.args.layer.now in
-    let h = c.loop-k-test.true in
-    let f = few (stands (goal.at.past-k-requires c).In-loop-k) in (
-      omega (arith, h, H.entries),
-      near (k (goal.at.past-k-requires c).In-loop-k).here H (stands (goal.at.past-k-requires c).In-loop-k).placed (omega (arith, h)),
-      H.columns,
-      omega (arith, f.0, l, H.entries),
-      omega (arith, f.1, l, H.entries),
+    let s = (goal.at.past-k-requires c).After-stands_before in
+    let l = c.args.layer.now in
+    let f = few c.loop-i.invariant.1 in
+    let n = layer_length l.c l.m l.numbers.now in (
+      omega (arith, below s, l.held.entries),
+      omega (arith, f.0, n, l.held.entries),
+      omega (arith, f.1, n, l.held.entries),
     )
 
-pub loop-k-smaller : goal.loop-k-smaller
-loop-k-smaller c =
-    omega (arith, ap (λ (x : Mark). x.here.i) c.past-k.ensures, c.loop-k-test.true)
-
-pub loop-k-preserved : goal.loop-k-preserved
-loop-k-preserved c =
-    let d = entry_at c.args.c (k (goal.at.loop-k-preserved c).In-loop-k).here.at c.args.layer.now in
-    let h = c.head_at-d in
-    let is = ap (λ (x : Head). x.kind) h.ensures in
+pub loop-i-preserved : goal.loop-i-preserved
+loop-i-preserved c =
+    let s = (goal.at.loop-i-preserved c).After-stands_before in
+    let v = c.loop-i.invariant in
+    let d = entry_of c.args.layer.now c.loop-i.k.i in
+    let is : c.head-d.result.kind ≡ d.kind =
+    ap (λ (h : Head). h.kind) c.head-d.ensures ∙ ap (λ (n : ℕ). (entry_of c.args.layer.now n).kind) (sym v.0) in
     rw c.past-k.ensures (
-      marks_past (stands (goal.at.loop-k-preserved c).In-loop-k) h.result.kind (this (goal.at.loop-k-preserved c).In-loop-k) (ap (λ (n : ℕ). eqb n ADD) is ∙ sym (add_kind d))
+      omega (arith, v.0),
+      marks_past v.1 c.head-d.result.kind (this s) (ap (λ (n : ℕ). eqb n ADD) is ∙ sym (add_kind d))
           (ap (λ (n : ℕ). eqb n STRIKE) is ∙ sym (strike_kind d)),
-      early_next c.loop-k.invariant.1 (this (goal.at.loop-k-preserved c).In-loop-k)
-          (sym (judged (goal.at.loop-k-preserved c).After-stands_before) ∙ c.if-not-stands_before.false),
+      early_next v.2 (this s) (sym (judged s) ∙ c.if-not-stands_before.false),
     )
 
 pub returns : goal.returns
 returns c =
-    let a = c.args in
-    let v = c.loop-k.invariant in
-    (v.0, parted_end v.1 (omega (arith, c.loop-k-test.false, layer_length a.c a.m a.layer.now)))
+    let l = c.args.layer.now in
+    let v = c.loop-i.invariant in
+    (v.1, parted_end v.2 (omega (arith, v.0, c.loop-i-test.false, layer_length l.c l.m l.numbers.now)))

@@ -1,32 +1,29 @@
--- `walk::clashes` meets its contract: the entry at the cursor is the first of those from it on.
+-- `walk::clashes` meets its contract: entry number i is the first of those from it on.
 -- Assumes nothing.
 use mathlib.Core.Path.{sym, ap, ◌∙◌}
+use borrow.Author.Tests.{le-ltb}
 use Rattle.model.specs.Layer.{Layer}
-use Rattle.model.specs.Raw.{entry_at}
 use Rattle.model.specs.Conflict.{clash, met}
 use Rattle.head.specs.declared.Head.{Head}
 use Rattle.head.specs.Head.{seen}
 use Rattle.head.proofs.Heads.{clash_head}
-use Rattle.entry.proofs.Looks.{left_end}
+use Rattle.entry.specs.Look.{entry_of}
+use Rattle.entry.proofs.Looks.{stored_end}
 use Rattle.walk.specs.Walk.{rule_ahead}
-use Rattle.walk.proofs.Marks.{entry_here, entry_room}
+use Rattle.walk.proofs.Marks.{entry_here}
 use Rattle.walk.proofs.clashes.Goals as goal
 
-pub head_at-d-requires : goal.head_at-d-requires
-head_at-d-requires c =
-    (entry_room _ _ _ c.args.k c.requires.1 c.if-k-m.true c.requires.0, c.requires.0.some)
-
-pub returns-then-k-m : goal.returns-then-k-m
-returns-then-k-m c =
+pub returns-then-i-layer : goal.returns-then-i-layer
+returns-then-i-layer c =
     let a = c.args in
     c.is_some.ensures
     ∙ (ap met c.rule_met.ensures
-    ∙ (ap (λ (h : Head). met (clash (seen a.e) (seen h))) c.head_at-d.ensures
-    ∙ (ap met (clash_head (seen a.e) (entry_at a.c a.k.at a.layer.now))
-    ∙ sym (ap (λ (L : Layer). met (rule_ahead (seen a.e) L))
-    (entry_here _ _ _ a.k c.requires.1 c.if-k-m.true).split))))
+    ∙ (ap (λ (h : Head). met (clash (seen a.e) (seen h))) c.head.ensures
+    ∙ (ap met (clash_head (seen a.e) (entry_of a.layer.now a.i))
+    ∙ sym (ap (λ (L : Layer). met (rule_ahead (seen a.e) L)) (entry_here a.layer.now a.i c.if-i-layer.true).split))))
 
-pub returns : goal.returns
-returns c =
+pub returns-else-i-layer : goal.returns-else-i-layer
+returns-else-i-layer c =
     let a = c.args in
-    sym (ap (λ (L : Layer). met (rule_ahead (seen a.e) L)) (left_end _ _ _ _ c.if-k-m.false))
+    le-ltb a.i a.layer.now.m c.if-i-layer.false
+    ∙ sym (ap (λ (L : Layer). met (rule_ahead (seen a.e) L)) (stored_end a.layer.now a.i c.if-i-layer.false))

@@ -1,7 +1,7 @@
 -- `weave::weave` meets its contract: the invariant says that what is written and what the walk still leaves are the whole.
 -- Assumes nothing.
 use native.Mathlib.Omega.{arith}
-use Prim.Native.Nat.{◌-◌, ◌≤◌}
+use Prim.Native.Nat.{◌≤◌}
 use lib.ListN.{length}
 use Rattle.model.specs.Raw.{layer_of}
 use Rattle.theory.proofs.Raw.{layer_length}
@@ -22,23 +22,25 @@ next-t-requires c = (c.requires.0, c.loop-k.invariant.walked, c.loop-k-test.true
 
 -- the turn and the walk behind it
 
-turned : (c : After-next-t) → let a = c.args in
-    Next a.keys.now (over a.c a.keys.now a.mr a.r.now) (layer_of a.c a.mr a.r.now)
-    (layer_of a.c a.mw a.w.now) c.loop-k.k c.next-t.result
+turned : (c : After-next-t) → let s = c.args.s.now in
+    Next s.keys.now (over s.c s.keys.now s.mr s.r.now) (layer_of s.c s.mr s.r.now)
+    (layer_of s.c s.mw s.w.now) c.loop-k.k c.next-t.result
 turned c =
-    next_of c.loop-k.invariant.walked (omega (arith, c.loop-k-test.true, layer_length c.args.c c.args.mw c.args.w.now)) c.next-t.result c.next-t.ensures
+    let s = c.args.s.now in
+    next_of c.loop-k.invariant.walked (omega (arith, c.loop-k-test.true, layer_length s.c s.mw s.w.now)) c.next-t.result c.next-t.ensures
 
-leaves : (c : After-next-t) → let a = c.args in
-    Leaves a.write a.c a.mr a.r.now a.mw a.w.now c.loop-k.k c.next-t.result.puts
+leaves : (c : After-next-t) → let s = c.args.s.now in
+    Leaves c.args.write s.c s.mr s.r.now s.mw s.w.now c.loop-k.k c.next-t.result.puts
     (length c.loop-k.out)
 leaves c =
+    let s = c.args.s.now in
     let b = c.requires.0 in
     let g = c.loop-k.invariant in
     record {
       lower = record { over = _; rows = _; form = b.lower };
       upper = record { over = _; rows = _; form = b.upper };
-      lower_upto = omega (arith, g.walked.lower_upto, layer_length c.args.c c.args.mr c.args.r.now);
-      upper_upto = omega (arith, g.walked.upper_upto, layer_length c.args.c c.args.mw c.args.w.now);
+      lower_upto = omega (arith, g.walked.lower_upto, layer_length s.c s.mr s.r.now);
+      upper_upto = omega (arith, g.walked.upper_upto, layer_length s.c s.mw s.w.now);
       few = (small b g.walked).2;
       takes = (turned c).takes;
       room = λ h. room_for (c.requires.1 h) (g.wrote h) (turned c);
@@ -49,8 +51,9 @@ put-requires c = leaves (goal.at.put-requires c).After-next-t
 
 pub loop-k-smaller : goal.loop-k-smaller
 loop-k-smaller c =
+    let s = c.args.s.now in
     let n = turned (goal.at.loop-k-smaller c).After-next-t in
-    omega (arith, n.further, n.lower_upto, n.upper_upto, layer_length c.args.c c.args.mr c.args.r.now, layer_length c.args.c c.args.mw c.args.w.now)
+    omega (arith, n.further, n.lower_upto, n.upper_upto, layer_length s.c s.mr s.r.now, layer_length s.c s.mw s.w.now)
 
 pub loop-k-preserved : goal.loop-k-preserved
 loop-k-preserved c =
@@ -59,21 +62,23 @@ loop-k-preserved c =
 
 -- after the loop
 
-lower_upto : (c : At-loop-k) → c.loop-k.k.i ≤ c.args.mr
-lower_upto c = omega (arith, c.loop-k.invariant.walked.lower_upto, layer_length c.args.c c.args.mr c.args.r.now)
+lower_upto : (c : At-loop-k) → c.loop-k.k.i ≤ c.args.s.now.mr
+lower_upto c =
+    let s = c.args.s.now in
+    omega (arith, c.loop-k.invariant.walked.lower_upto, layer_length s.c s.mr s.r.now)
 
-counts : (c : At-loop-k) → (c.loop-k.k.m ≤ 1024) × (c.args.mr ≤ 512)
+counts : (c : At-loop-k) → (c.loop-k.k.m ≤ 1024) × (c.args.s.now.mr ≤ 512)
 counts c = ((small c.requires.0 c.loop-k.invariant.walked).2, (low c.requires.0).held.entries)
 
 pub rest_if-requires : goal.rest_if-requires
 rest_if-requires c =
-    let a = c.args in
+    let s = c.args.s.now in
     let b = low c.requires.0 in
     record {
       held = b.held;
       upto = lower_upto (goal.at.rest_if-requires c).At-loop-k;
-      room = λ h. rest_room (c.requires.1 h) (c.loop-k.invariant.wrote h) (omega (arith, c.loop-k-test.false, layer_length c.args.c c.args.mw c.args.w.now)) a.mr
-          a.r.now (layer_length c.args.c c.args.mr c.args.r.now) b.held.room;
+      room = λ h. rest_room (c.requires.1 h) (c.loop-k.invariant.wrote h) (omega (arith, c.loop-k-test.false, layer_length s.c s.mw s.w.now)) s.mr
+          s.r.now (layer_length s.c s.mr s.r.now) b.held.room;
     }
 
 pub overflow_sub-result : goal.overflow_sub-result
@@ -84,8 +89,8 @@ overflow_add-result c = omega (arith, counts (goal.at.overflow_add-result c).At-
 
 pub returns : goal.returns
 returns c =
-    let a = c.args in
-    went c.requires.1 c.loop-k.invariant (omega (arith, c.loop-k-test.false, layer_length c.args.c c.args.mw c.args.w.now)) a.mr (layer_length c.args.c c.args.mr c.args.r.now) _ _
+    let s = c.args.s.now in
+    went c.requires.1 c.loop-k.invariant (omega (arith, c.loop-k-test.false, layer_length s.c s.mw s.w.now)) s.mr (layer_length s.c s.mr s.r.now) _ _
     (rest_numbers (low c.requires.0) c.loop-k.k.i) c.rest_if.ensures
 
 pub shape_of-out : goal.shape_of-out

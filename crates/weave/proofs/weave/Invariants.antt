@@ -8,8 +8,10 @@ use Rattle.weave.proofs.weave.Given as goal
 
 abbrev pub invariant-loop-k : goal.invariant-loop-k
 invariant-loop-k l =
-    Going l.write l.c l.keys (over l.c l.keys l.mr l.r) (layer_of l.c l.mr l.r) (layer_of l.c l.mw l.w) l.initial.out l.k l.out
+    let s = l.s in
+    Going l.write s.c s.keys.now (over s.c s.keys.now s.mr s.r.now) (layer_of s.c s.mr s.r.now)
+    (layer_of s.c s.mw s.w.now) l.initial.out l.k l.out
 
 abbrev pub decreases-loop-k : goal.decreases-loop-k
 decreases-loop-k l =
-    (l.mr + l.mw) - (l.k.i + l.k.j)
+    (l.s.mr + l.s.mw) - (l.k.i + l.k.j)

@@ -4,13 +4,10 @@ use native.Mathlib.Omega.{arith}
 use Rattle.tally.proofs.Tally.with.Goals as goal
 
 pub returns-in-Add : goal.returns-in-Add
-returns-in-Add c = rw c.in-Add.is (omega (arith, c.one_if.ensures.0), omega arith)
+returns-in-Add c = rw c.in-Add.is (omega (arith, c.from.ensures), omega arith)
 
 pub returns-in-Strike : goal.returns-in-Strike
-returns-in-Strike c = rw c.in-Strike.is (omega arith, omega (arith, c.one_if-in-Strike.ensures.0))
+returns-in-Strike c = rw c.in-Strike.is (omega arith, omega (arith, c.from-in-Strike.ensures))
 
 pub returns-in-Change : goal.returns-in-Change
 returns-in-Change c = rw c.in-Change.is (omega arith, omega arith)
-
-pub returns-in-End : goal.returns-in-End
-returns-in-End c = rw c.in-End.is (omega arith, omega arith)
