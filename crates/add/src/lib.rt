@@ -9,6 +9,7 @@ use entry::Stored;
 use words::{Cause, MOST_ROWS, Refusal};
 
 // Add a row: an add entry at its position, in key order among the adds there.
+// It takes (c, m, layer) as they are lent: they make no Stored before the form check.
 pub fn add(
     c: usize,
     m: usize,

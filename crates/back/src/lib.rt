@@ -8,6 +8,7 @@ use entry::Stored;
 use words::{Cause, Origin, Refusal};
 
 // Row number r is the base row or the added entry that stands there.
+// It takes (c, m, layer) as they are lent: they make no Stored before the form check.
 pub fn back(c: usize, n: usize, m: usize, layer: &[u64], r: usize) -> Result<Origin, Refusal>
     ensures { result ≡ back_answer c n m layer.now r }
 {

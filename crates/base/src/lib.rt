@@ -1,9 +1,13 @@
 // The base rows of the printing program: what is counted, and a base row entered.
 #![tactic(auto)]
 
-ghost use Rattle.std.specs.Prelude.{◌≡◌, List, ℕ, ◌≤◌, ◌<◌};
-ghost use Rattle.base.specs.Base.{most_base, column_of, sheet_of, stay as Base·stay, below_last, Based};
+mod desk;
 
+ghost use Rattle.std.specs.Prelude.{◌≤◌, ◌<◌, ◌≡◌};
+ghost use Rattle.base.specs.Base.{most_base, column_of, stay as Base·stay, below_last, Based};
+ghost use Rattle.base.specs.Desk.{sheet_on, reply_on, Replied};
+
+pub use desk::Desk;
 use text::Said;
 use words::Cause;
 
@@ -16,27 +20,13 @@ pub struct Counts {
     pub lines: u64,
 }
 
-// The counts after a line, and what is said of it, if anything.
-#[derive(Clone, Copy)]
-pub struct Reply {
-    pub counts: Counts,
-    pub said: Option<Said>,
-}
-
-// The reply to a line that changes nothing.
-pub fn stay(counts: Counts, said: Said) -> Reply
-    requires { counts.lines < 9223372036854775808 }
-    ensures { result ≡ Base·stay counts said }
+// Reads a line that changes nothing, of which so much is said.
+pub fn stay(desk: &mut Desk, said: Said) -> Option<Said>
+    requires { desk.old.counts.lines < 9223372036854775808 }
+    ensures { Replied (Base·stay desk.old.counts said) desk.old desk.new result }
 {
-    Reply {
-        counts: Counts {
-            rows: counts.rows,
-            entries: counts.entries,
-            edited: counts.edited,
-            lines: counts.lines + 1,
-        },
-        said: Some(said),
-    }
+    desk.counts.lines += 1;
+    Some(said)
 }
 
 // Whether the key g is not above the last of the n base keys.
@@ -51,31 +41,24 @@ fn not_above(g: u64, n: usize, table: &[u64; 1536]) -> bool
 }
 
 // Enters a base row, where none is refused; whatever the layer is, it stays.
-pub fn base_row(counts: Counts, g: u64, s: u64, m: u64, table: &mut [u64; 1536]) -> Reply
-    requires { (counts.rows ≤ most_base) × (counts.lines < 9223372036854775808) }
-    ensures { (layer : List ℕ) →
-        Based g s m counts (sheet_of table.old layer) result (sheet_of table.new layer) }
+pub fn base_row(desk: &mut Desk, g: u64, s: u64, m: u64) -> Option<Said>
+    requires { desk.old.counts.lines < 9223372036854775808 }
+    ensures { Based g s m desk.old.counts (sheet_on desk.old) (reply_on desk.new result) (sheet_on desk.new) }
 {
-    if counts.edited {
-        return stay(counts, Said::Unread);
+    if desk.counts.edited {
+        return stay(desk, Said::Unread);
     }
-    let n = counts.rows;
+    let n = desk.counts.rows;
     if 512 <= n {
-        return stay(counts, Said::Unread);
+        return stay(desk, Said::Unread);
     }
-    if not_above(g, n, table) {
-        return stay(counts, Said::Refused(Cause::KeysUnordered));
+    if not_above(g, n, &desk.table) {
+        return stay(desk, Said::Refused(Cause::KeysUnordered));
     }
-    table[n] = g;
-    table[512 + n] = s;
-    table[1024 + n] = m;
-    Reply {
-        counts: Counts {
-            rows: n + 1,
-            entries: counts.entries,
-            edited: counts.edited,
-            lines: counts.lines + 1,
-        },
-        said: None,
-    }
+    desk.table[n] = g;
+    desk.table[512 + n] = s;
+    desk.table[1024 + n] = m;
+    desk.counts.rows = n + 1;
+    desk.counts.lines += 1;
+    None
 }

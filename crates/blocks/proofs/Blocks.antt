@@ -8,7 +8,7 @@ use lib.ListN.{length-take}
 use Rattle.std.specs.Prelude.{Option, Some, None}
 use Rattle.text.specs.Text.{Wrote}
 use Rattle.text.proofs.Writing.{wrote_then}
-use Rattle.base.specs.Base.{sheet_of}
+use Rattle.base.specs.Desk.{sheet_on}
 use Rattle.intake.specs.declared.Reader.{Reader}
 use Rattle.intake.specs.Reading.{Reading}
 use Rattle.intake.specs.Reader.{reading_of, InFront}
@@ -20,7 +20,7 @@ use Rattle.blocks.specs.Going.{Moved, came, Block}
 
 -- the table behind what the last line says
 pub closed_text : {s t : Reader} {old new : List ℕ} {r : ℕ} → Closed s t → InFront old t →
-    Wrote (ending t.counts (sheet_of t.table t.layer)) t.out t.at r new → Wrote (closing (reading_of s)) old 0 r new
+    Wrote (ending t.desk.counts (sheet_on t.desk)) t.out t.at r new → Wrote (closing (reading_of s)) old 0 r new
 unfolding closing
 closed_text v said w =
     rw (ap (λ (j : Reading). j.text ++ ending j.counts j.sheet) v.same) at (wrote_then said w)
@@ -38,8 +38,8 @@ most None h = omega arith
 
 module _ {got : Option ℕ} {block : List ℕ} {w : Went} {s t : Reader} (h : Moved 4096 got)
     (b : Block got block w s t) where
-  pub few_lines : t.counts.lines ≤ s.counts.lines + 4096
+  pub few_lines : t.desk.counts.lines ≤ s.desk.counts.lines + 4096
   few_lines = omega (arith, b.took.counted, most got h, length-take (came got) block)
 
-  pub still_ready : s.counts.lines ≤ 4611686018427387904 → Ready 4096 t
+  pub still_ready : s.desk.counts.lines ≤ 4611686018427387904 → Ready 4096 t
   still_ready l = record { few = omega arith; countable = omega (arith, few_lines) }

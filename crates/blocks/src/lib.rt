@@ -46,11 +46,5 @@ pub fn close(reader: &mut Reader) -> usize
     ensures { Wrote (closing (hushed (reading_of reader.old))) reader.old.out 0 result reader.new.out }
 {
     feed::end_input(reader);
-    show::finish(
-        reader.counts,
-        &reader.table,
-        &reader.layer,
-        &mut reader.out,
-        reader.at,
-    )
+    show::finish(&reader.desk, &mut reader.out, reader.at)
 }

@@ -9,6 +9,7 @@ use words::{Cause, Refusal};
 
 // Change column j of row number r to v: an added row gets the value; a base row's change of j gets it, or is entered in
 // column order. An equal value is entered too.
+// It takes (c, m, layer) as they are lent: they make no Stored before the form check.
 pub fn change(
     c: usize,
     m: usize,

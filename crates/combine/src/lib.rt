@@ -28,6 +28,7 @@ fn more_than(room: usize, s: &Stack, names: &[u64], out: &mut [u64]) -> bool
 
 // Combines the lower layer R over the base keys and the upper layer W over what R shows into one layer over the base,
 // in the third slice.
+// It takes both layers as they are lent: they make no Stored before the form checks.
 pub fn combine(
     c: usize,
     keys: &[u64],

@@ -12,11 +12,13 @@ use lib.Seq.{take_all, take-length, drop-drop, length-take-le}
 use contract.Lifetimes.{Lfts}
 use denote.Triple.Clauses.{AtExit}
 use borrow.Fn.Kinds.{Dens, ended_of}
-use Rattle.base.specs.declared.Reply.{Reply}
-use Rattle.std.specs.Prelude.{⊤}
+use Rattle.std.specs.Prelude.{⊤, Option}
 use Rattle.intake.specs.declared.Reader.{Reader}
 use Rattle.text.specs.Text.{Wrote, text_room}
-use Rattle.base.specs.Base.{Sheet, most_base, column_of, sheet_of}
+use Rattle.text.specs.declared.Said.{Said}
+use Rattle.base.specs.declared.desk.Desk.{Desk}
+use Rattle.base.specs.Desk.{sheet_on, reply_on}
+use Rattle.base.specs.Base.{Reply, Sheet, most_base, column_of, sheet_of}
 use Rattle.intake.specs.Reading.{Reading, most_kept}
 use Rattle.intake.specs.Reader.{reading_of, InFront, Spacious}
 use Rattle.text.proofs.put_bytes.Kinds as bytes_kinds
@@ -69,14 +71,14 @@ sheet_once t u K L h i e = (
 
 -- the arrays have their types' lengths, which no contract says
 pub record Arrays (s : Reader) : Type 0 where
-  pub in_table : length s.table ≡ 1536
+  pub in_table : length s.desk.table ≡ 1536
   pub in_line : length s.line ≡ most_kept
 
 -- the counts, the table, the layer and the text, and of the line's buffer what is kept
 pub record SameReader (s t : Reader) : Type 0 where
-  pub counts : s.counts ≡ t.counts
-  pub table : s.table ≡ t.table
-  pub layer : s.layer ≡ t.layer
+  pub counts : s.desk.counts ≡ t.desk.counts
+  pub table : s.desk.table ≡ t.desk.table
+  pub layer : s.desk.layer ≡ t.desk.layer
   pub kept : s.kept ≡ t.kept
   pub begun : take s.kept s.line ≡ take t.kept t.line
   pub at : s.at ≡ t.at
@@ -99,7 +101,7 @@ module _ {s t : Reader} {old : List ℕ} (h : Arrays s) (h' : Arrays t) (e : rea
 
   reading_once : SameReader s t
   reading_once =
-      let x = sheet_once s.table t.table s.layer t.layer h.in_table h'.in_table (ap (λ (i : Reading). i.sheet) e) in
+      let x = sheet_once s.desk.table t.desk.table s.desk.layer t.desk.layer h.in_table h'.in_table (ap (λ (i : Reading). i.sheet) e) in
       record {
         counts = ap (λ (i : Reading). i.counts) e;
         table = x.0;
@@ -127,36 +129,36 @@ module _ (κs : Lfts 2) (a : Dens κs rows_kinds.ps) (s s' : AtExit (ended_of 2 
   put_rows_unique r r' p q = wrote_once p q
 
 -- `show`: likewise
-module _ (κs : Lfts 3) (a : Dens κs finish_kinds.ps) (s s' : AtExit (ended_of 3 finish_kinds.ps finish_kinds.r) κs) where
+module _ (κs : Lfts 2) (a : Dens κs finish_kinds.ps) (s s' : AtExit (ended_of 2 finish_kinds.ps finish_kinds.r) κs) where
   pub finish_unique : (r r' : ℕ) → finish_contract.Post κs a r s → finish_contract.Post κs a r' s' →
-      (r ≡ r') × (s.1.1.1.0.now ≡ s'.1.1.1.0.now)
+      (r ≡ r') × (s.1.0.now ≡ s'.1.0.now)
   finish_unique r r' p q = wrote_once p q
 
--- `base` and `hear`: the reply, the table and the layer; that an array has its type's length is no part of a contract
+-- the counts, the table and the layer
+pub record SameDesk (s t : Desk) : Type 0 where
+  pub counts : s.counts ≡ t.counts
+  pub table : s.table ≡ t.table
+  pub layer : s.layer ≡ t.layer
+
+desk_once : {s t : Desk} {x : Sheet} {r : Reply} {u v : Option Said} → length s.table ≡ 1536 → length t.table ≡ 1536 →
+    reply_on s u ≡ r → reply_on t v ≡ r → sheet_on s ≡ x → sheet_on t ≡ x → (u ≡ v) × SameDesk s t
+desk_once {s} {t} h i p q y z =
+    let e = p ∙ sym q in
+    let w = sheet_once s.table t.table s.layer t.layer h i (y ∙ sym z) in (
+      ap (λ (r : Reply). r.said) e,
+      record { counts = ap (λ (r : Reply). r.counts) e; table = w.0; layer = w.1 },
+    )
+
+-- `base` and `hear`: what is said, and the desk; that an array has its type's length is no part of a contract
 module _ (κs : Lfts 1) (a : Dens κs base_kinds.ps) (s s' : AtExit (ended_of 1 base_kinds.ps base_kinds.r) κs) where
-  abbrev based : AtExit (ended_of 1 base_kinds.ps base_kinds.r) κs → List ℕ
-  based t = t.1.1.1.1.0.now
+  pub base_row_unique : (r r' : Option Said) → length s.0.now.table ≡ 1536 → length s'.0.now.table ≡ 1536 →
+      base_contract.Post κs a r s → base_contract.Post κs a r' s' → (r ≡ r') × SameDesk s.0.now s'.0.now
+  base_row_unique r r' h i p q = desk_once h i p.reply q.reply p.sheet q.sheet
 
-  pub base_row_unique : (r r' : Reply) → length (based s) ≡ 1536 → length (based s') ≡ 1536 →
-      base_contract.Post κs a r s → base_contract.Post κs a r' s' → (r ≡ r') × (based s ≡ based s')
-  base_row_unique r r' h i p q = (
-    (p []).reply ∙ sym (q []).reply,
-    (sheet_once (based s) (based s') [] [] h i ((p []).sheet ∙ sym (q []).sheet)).0,
-  )
-
-module _ (κs : Lfts 3) (a : Dens κs hear_kinds.ps) (s s' : AtExit (ended_of 3 hear_kinds.ps hear_kinds.r) κs) where
-  abbrev heard_table : AtExit (ended_of 3 hear_kinds.ps hear_kinds.r) κs → List ℕ
-  heard_table t = t.1.1.0.now
-
-  abbrev heard_layer : AtExit (ended_of 3 hear_kinds.ps hear_kinds.r) κs → List ℕ
-  heard_layer t = t.1.1.1.0.now
-
-  pub hear_unique : (r r' : Reply) → length (heard_table s) ≡ 1536 → length (heard_table s') ≡ 1536 →
-      hear_contract.Post κs a r s → hear_contract.Post κs a r' s' →
-      (r ≡ r') × (heard_table s ≡ heard_table s') × (heard_layer s ≡ heard_layer s')
-  hear_unique r r' h i p q =
-      let w = sheet_once (heard_table s) (heard_table s') (heard_layer s) (heard_layer s') h i (p.sheet ∙ sym q.sheet) in
-      (p.reply ∙ sym q.reply, w.0, w.1)
+module _ (κs : Lfts 2) (a : Dens κs hear_kinds.ps) (s s' : AtExit (ended_of 2 hear_kinds.ps hear_kinds.r) κs) where
+  pub hear_unique : (r r' : Option Said) → length s.0.now.table ≡ 1536 → length s'.0.now.table ≡ 1536 →
+      hear_contract.Post κs a r s → hear_contract.Post κs a r' s' → (r ≡ r') × SameDesk s.0.now s'.0.now
+  hear_unique r r' h i p q = desk_once h i p.reply q.reply p.sheet q.sheet
 
 -- `intake`, called as it demands: the counts, the table and the layer, the line that has begun and the text
 module _ (κs : Lfts 1) (a : Dens κs byte_kinds.ps) (s s' : AtExit (ended_of 1 byte_kinds.ps byte_kinds.r) κs) where

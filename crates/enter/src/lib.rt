@@ -49,6 +49,7 @@ pub fn in_key_order(lower: bool, out: Splice, into: Splice) -> Move
 
 // Enters a move into a layer of m entries, where the slice has room for the result. Answers refusal 9, or how many entries
 // there are then.
+// (c, m, layer) stand apart: a Stored is read, and this layer has other entries afterwards.
 pub fn enter(c: usize, m: usize, x: Move, layer: &mut [u64]) -> Result<usize, Refusal>
     requires { Held c m layer.old × Within c m x }
     ensures { let L = layer.old in (result ≡ room_answer c (length L) (count_after m x))

@@ -16,9 +16,9 @@ nothing_read x = record { counts = at_start; sheet = x; line = []; text = [] }
 
 -- the same in the program's numbers, all zero
 pub record Begun (s : Reader) : Type 0 where
-  pub counts : s.counts ≡ at_start
-  pub table : s.table ≡ replicate 1536 0
-  pub layer : s.layer ≡ replicate 2560 0
+  pub counts : s.desk.counts ≡ at_start
+  pub table : s.desk.table ≡ replicate 1536 0
+  pub layer : s.desk.layer ≡ replicate 2560 0
   pub kept : s.kept ≡ 0
   pub at : s.at ≡ 0
 
@@ -32,7 +32,7 @@ anew s = record s { at = 0 }
 -- what a block of n bytes needs: its text fits the buffer from the front on
 pub record Ready (n : ℕ) (s : Reader) : Type 0 where
   pub few : n ≤ 4096
-  pub countable : s.counts.lines + n < 9223372036854775808
+  pub countable : s.desk.counts.lines + n < 9223372036854775808
 
 -- the lines of the input, the first of which has begun with l: each up to its line feed, which the last may lack
 abbrev pub last_line : List ℕ → List (List ℕ)

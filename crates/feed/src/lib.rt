@@ -5,7 +5,7 @@ ghost use Rattle.std.specs.Prelude.{length};
 ghost use Rattle.intake.specs.Reader.{InFront, Took};
 ghost use Rattle.feed.specs.Input.{anew, Begun, Ready, Closed};
 
-use base::Counts;
+use base::{Counts, Desk};
 use intake::Reader;
 
 // Before the first byte.
@@ -13,14 +13,16 @@ pub fn start() -> Reader
     ensures { Begun result }
 {
     Reader {
-        counts: Counts {
-            rows: 0,
-            entries: 0,
-            edited: false,
-            lines: 0,
+        desk: Desk {
+            counts: Counts {
+                rows: 0,
+                entries: 0,
+                edited: false,
+                lines: 0,
+            },
+            table: [0; 1536],
+            layer: [0; 2560],
         },
-        table: [0; 1536],
-        layer: [0; 2560],
         kept: 0,
         line: [0; 65],
         at: 0,

@@ -31,6 +31,7 @@ pub fn fit_place(layer: &Stored, keys: &[u64]) -> usize
 }
 
 // Refusals 1 to 4 of one layer, one after the other: arguments, form, keys, fit. It walks the layer for form, then for fit.
+// It takes (c, m, layer) as they are lent: they make no Stored before the form check.
 fn in_turn(c: usize, m: usize, layer: &[u64], keys: &[u64]) -> Result<usize, Refusal>
     ensures { result ≡ ready_answer c m layer.now keys.now }
 {

@@ -40,6 +40,7 @@ pub fn judge(n: usize, m: usize, s: scan::Scan) -> Result<usize, Refusal>
 }
 
 // The check behind every call: arguments and form. The result is the number of rows after the layer.
+// It takes (c, m, layer) as they are lent: they make no Stored before the form check.
 pub fn check(c: usize, n: usize, m: usize, layer: &[u64]) -> Result<usize, Refusal>
     ensures { result ≡ form_answer c n m layer.now }
 {

@@ -24,10 +24,12 @@ use Rattle.model.specs.Calls.{
 }
 use Rattle.line.specs.declared.Line.{Line}
 use Rattle.line.specs.declared.Line.TheVariants.{Base, Add, Strike, Change, Renumber}
+use Rattle.text.specs.declared.Said.{Said}
 use Rattle.text.specs.declared.Said.TheVariants.{Unread}
 use Rattle.base.specs.declared.Counts.{Counts}
-use Rattle.base.specs.declared.Reply.{Reply}
-use Rattle.base.specs.Base.{Sheet, column_of, sheet_of, most_base, stay, Based}
+use Rattle.base.specs.declared.desk.Desk.{Desk}
+use Rattle.base.specs.Desk.{sheet_on, reply_on, Replied}
+use Rattle.base.specs.Base.{Reply, Sheet, column_of, sheet_of, most_base, stay, Based}
 use Rattle.reply.specs.Reply.{entered}
 use Rattle.hear.specs.Heard.{heard, after, Heard}
 use Rattle.hear.proofs.Rows.{lent_rows, lent_whole}
@@ -42,9 +44,10 @@ unfolding heard after
 heard_base b = record { reply = b.reply; sheet = b.sheet }
 
 -- a line that says nothing that can be read
-pub heard_none : {d : Counts} {x : Sheet} {r : Reply} → r ≡ stay d Unread → Heard None d x r x
+pub heard_none : {s t : Desk} {said : Option Said} → Replied (stay s.counts Unread) s t said →
+    Heard None s.counts (sheet_on s) (reply_on t said) (sheet_on t)
 unfolding heard after
-heard_none e = record { reply = e; sheet = refl }
+heard_none e = record { reply = e.reply; sheet = rw (e.table, e.layer) }
 
 -- an edit line, by what its edit answered and left
 module _ (d : Counts) (table layer layer' : List ℕ) (a : Answer) (r : Reply) (few : d.rows ≤ most_base)

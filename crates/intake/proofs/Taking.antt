@@ -18,11 +18,11 @@ use Rattle.line.specs.declared.Line.{Line}
 use Rattle.line.specs.declared.Line.TheVariants.{Base, Add, Strike, Change, Renumber}
 use Rattle.line.specs.Line.{line_of}
 use Rattle.base.specs.declared.Counts.{Counts}
-use Rattle.base.specs.declared.Reply.{Reply}
 use Rattle.text.specs.Text.{Wrote, message}
 use Rattle.text.specs.declared.Said.TheVariants.{Unread, Refused}
 use Rattle.text.proofs.Writing.{wrote_before, wrote_then}
-use Rattle.base.specs.Base.{Sheet, sheet_of, most_base, shut, below_last, base_reply, stay, grown}
+use Rattle.base.specs.Base.{Reply, Sheet, most_base, shut, below_last, base_reply, stay, grown}
+use Rattle.base.specs.Desk.{sheet_on}
 use Rattle.reply.specs.Reply.{entered}
 use Rattle.hear.specs.Heard.{added, struck, changed, renumbered, heard, Heard}
 use Rattle.intake.specs.declared.Reader.{Reader}
@@ -73,7 +73,7 @@ heard_counts None d x h = (h, refl)
 
 -- a line ended
 pub ended : {s t : Reader} {r : Reply} →
-    Heard (line_of (take s.kept s.line)) s.counts (sheet_of s.table s.layer) r (sheet_of t.table t.layer) → t.counts ≡ r.counts → t.kept ≡ 0 →
+    Heard (line_of (take s.kept s.line)) s.desk.counts (sheet_on s.desk) r (sheet_on t.desk) → t.desk.counts ≡ r.counts → t.kept ≡ 0 →
     Wrote (message r.counts.lines r.said) s.out s.at t.at t.out → t.at ≤ s.at + 50 → Ended s t
 ended {s = s} w e k v l = record {
   same = rw (e, k, wrote_before v, w.sheet, ← w.reply);
@@ -81,7 +81,7 @@ ended {s = s} w e k v l = record {
   said = l;
   counted =
       rw (e, w.reply)
-      (heard_counts (line_of (take s.kept s.line)) s.counts (sheet_of s.table s.layer) s.standing).1;
+      (heard_counts (line_of (take s.kept s.line)) s.desk.counts (sheet_on s.desk) s.desk.standing).1;
 }
 
 -- what a text buffer says from the front on, and what it says once more is written behind it, or none is

@@ -2,23 +2,19 @@
 #![tactic(auto)]
 
 ghost use Rattle.std.specs.Prelude.{◌≡◌, [], ◌∷◌, ◌≤◌};
-ghost use Rattle.base.specs.Base.{most_base};
 ghost use Rattle.intake.specs.Reading.{most_kept, byte_kept};
 
-use base::Counts;
+use base::Desk;
 
-// What is read so far: the counts, the base table and the layer over it, the bytes kept of the line that has begun, and
+// What is read so far: the counts, the base table and the layer over it on a desk, the bytes kept of the line that has begun, and
 // the text that was said.
 #[derive(Drop)]
 pub struct Reader {
-    pub counts: Counts,
-    pub table: [u64; 1536],
-    pub layer: [u64; 2560],
+    pub desk: Desk,
     pub kept: usize,
     pub line: [u8; 65],
     pub at: usize,
     pub out: [u8; 204800],
-    pub ghost standing: { counts.rows ≤ most_base },
     pub ghost short: { kept ≤ most_kept },
 }
 
@@ -41,14 +37,9 @@ impl Reader {
         requires { Spacious 1 self.old }
         ensures { Ended self.old self.new × Writes self.old self.new }
     {
-        let reply = hear::hear(
-            self.counts,
-            &self.line[..self.kept],
-            &mut self.table,
-            &mut self.layer,
-        );
-        self.at = text::say(reply.said, reply.counts.lines, &mut self.out, self.at);
-        self.counts = reply.counts;
+        let line: &[u8] = &self.line;
+        let said = hear::hear(&mut self.desk, &line[..self.kept]);
+        self.at = text::say(said, self.desk.counts.lines, &mut self.out, self.at);
         self.kept = 0;
     }
 

@@ -9,6 +9,7 @@ use entry::Stored;
 use words::{Cause, Refusal};
 
 // Refusals 1 and 2. The result is the rows after X and the rows after Y, together.
+// It takes both layers as they are lent: they make no Stored before the form checks.
 fn both_formed(
     c: usize,
     n: usize,

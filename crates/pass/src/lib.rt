@@ -8,6 +8,7 @@ use entry::Stored;
 use words::{Cause, MOST_ROWS, Refusal};
 
 // Moves X past Y: only X's positions change.
+// It takes both layers as they are lent: they make no Stored before the form checks.
 pub fn move_past(
     c: usize,
     keys: &[u64],

@@ -17,6 +17,7 @@ fn shifted(s: usize, d: i64) -> usize
 }
 
 // The shift at base position s, 0 to n: adds up to and including s, less strikes before s.
+// It takes (c, m, layer) as they are lent: they make no Stored before the form check.
 pub fn shift(c: usize, n: usize, m: usize, layer: &[u64], s: usize) -> Result<i64, Refusal>
     ensures { result ≡ shift_answer c n m layer.now s }
 {

@@ -8,6 +8,7 @@ use entry::Stored;
 use words::{Cause, Refusal};
 
 // What reading column j into a buffer of len numbers answers.
+// It takes (c, m, layer) as they are lent: they make no Stored before the form check.
 pub fn answer(
     c: usize,
     m: usize,

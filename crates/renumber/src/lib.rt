@@ -18,6 +18,7 @@ fn lent_whole(c: usize, n: usize, w: usize, len: usize) -> bool
 }
 
 // Renumber row number r to g, over a table of n rows whose c columns start w numbers apart.
+// It takes (c, m, layer) as they are lent: they make no Stored before the form check.
 pub fn renumber_apart(
     c: usize,
     n: usize,

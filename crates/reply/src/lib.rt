@@ -1,37 +1,26 @@
 // The reply to an edit line.
 #![tactic(auto)]
 
-ghost use Rattle.std.specs.Prelude.{◌≡◌, ◌<◌};
+ghost use Rattle.std.specs.Prelude.{◌<◌};
+ghost use Rattle.base.specs.Desk.{Replied};
 ghost use Rattle.reply.specs.Reply.{entered as Reply·entered};
 
-use base::{Counts, Reply};
+use base::Desk;
 use text::Said;
 use words::Refusal;
 
-// The reply to an edit line whose edit answered so.
-pub fn entered(counts: Counts, answer: Result<usize, Refusal>) -> Reply
-    requires { counts.lines < 9223372036854775808 }
-    ensures { result ≡ Reply·entered counts answer }
+// Counts an edit line whose edit answered so, and says what is said of it.
+pub fn entered(desk: &mut Desk, answer: Result<usize, Refusal>) -> Option<Said>
+    requires { desk.old.counts.lines < 9223372036854775808 }
+    ensures { Replied (Reply·entered desk.old.counts answer) desk.old desk.new result }
 {
-    let lines = counts.lines + 1;
+    desk.counts.edited = true;
+    desk.counts.lines += 1;
     match answer {
-        Ok(k) => Reply {
-            counts: Counts {
-                rows: counts.rows,
-                entries: k,
-                edited: true,
-                lines,
-            },
-            said: None,
-        },
-        Err(x) => Reply {
-            counts: Counts {
-                rows: counts.rows,
-                entries: counts.entries,
-                edited: true,
-                lines,
-            },
-            said: Some(Said::Refused(x.cause)),
-        },
+        Ok(k) => {
+            desk.counts.entries = k;
+            None
+        }
+        Err(x) => Some(Said::Refused(x.cause)),
     }
 }

@@ -13,6 +13,7 @@ use words::{Cause, Refusal};
 
 // Renumbers row number r, which is shown, to g: the row goes and comes again with its other values as they are shown,
 // in one move of what stands between the two places and one of what stands behind both.
+// (c, m, layer) stand apart: a Stored is read, and this layer has other entries afterwards.
 pub fn reseat(
     c: usize,
     w: usize,

@@ -20,6 +20,7 @@ fn put_trailer(c: usize, n: usize, m: usize, reach: usize, at: usize, out: &mut 
 }
 
 // Writes the layer of m entries to the front of out, with no note; it answers the number of bytes.
+// It takes (c, m, layer) as they are lent: they make no Stored before the form check.
 pub fn save(c: usize, n: usize, m: usize, layer: &[u64], out: &mut [u8]) -> Result<usize, Refusal>
     ensures { let L = layer.now in let O = out.old in
         (result ≡ save_answer c n m L (length O)) × (out.new ≡ save_slice c n m L O) }

@@ -5,10 +5,11 @@ ghost use Rattle.std.specs.Prelude.{◌≡◌, ◌+◌, ◌*◌, ◌≤◌, ◌<
 ghost use Rattle.model.specs.Raw.{layer_of};
 ghost use Rattle.model.specs.Read.{read, read_column};
 ghost use Rattle.text.specs.Text.{Wrote, text_room, table_text, most_shown, front};
-ghost use Rattle.base.specs.Base.{most_base, column_of, sheet_of, table_of};
+ghost use Rattle.base.specs.Base.{most_base, column_of, table_of};
+ghost use Rattle.base.specs.Desk.{sheet_on};
 ghost use Rattle.show.specs.Shown.{Formed, ending};
 
-use base::Counts;
+use base::Desk;
 use entry::Stored;
 
 // Reads column j of the n base rows to its place in the work buffer; the layer keeps form and shows so many rows.
@@ -60,22 +61,16 @@ fn put_table(
 }
 
 // Writes the header and the rows.
-pub fn finish(
-    counts: Counts,
-    table: &[u64; 1536],
-    layer: &[u64; 2560],
-    out: &mut [u8; 204800],
-    at: usize,
-) -> usize
-    requires { (counts.rows ≤ most_base) × (at + 22 + most_shown * 84 ≤ text_room) }
-    ensures { Wrote (ending counts (sheet_of table.now layer.now))
+pub fn finish(desk: &Desk, out: &mut [u8; 204800], at: usize) -> usize
+    requires { at + 22 + most_shown * 84 ≤ text_room }
+    ensures { Wrote (ending desk.now.counts (sheet_on desk.now))
         out.old at result out.new }
 {
     let end = text::put_bytes(b"row group source mask\n", out, at);
-    let n = counts.rows;
-    let m = counts.entries;
-    match form::check(3, n, m, layer) {
+    let n = desk.counts.rows;
+    let m = desk.counts.entries;
+    match form::check(3, n, m, &desk.layer) {
         Err(_) => end,
-        Ok(rows) => put_table(rows, n, m, layer, table, out, end),
+        Ok(rows) => put_table(rows, n, m, &desk.layer, &desk.table, out, end),
     }
 }

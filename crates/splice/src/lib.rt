@@ -20,6 +20,7 @@ pub struct Splice {
 // Enters two splices into a layer of m entries, the second behind the first, where the slice has room for the result:
 // the entries between them and those behind both are moved once each. Answers refusal 9, or how many entries there are
 // then.
+// (c, m, layer) stand apart: a Stored is read, and this layer has other entries afterwards.
 pub fn enter_two(
     c: usize,
     m: usize,

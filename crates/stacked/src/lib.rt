@@ -33,6 +33,7 @@ fn fit_both(s: &Stack, rows: usize, names: &mut [u64]) -> Result<usize, Refusal>
 }
 
 // All four.
+// It takes both layers as they are lent: they make no Stored before the form checks.
 pub fn check_both(
     c: usize,
     keys: &[u64],

@@ -9,6 +9,7 @@ use entry::Stored;
 use words::{Cause, Refusal};
 
 // Strike row number r: an added row's entry disappears; a base row loses its changes and gains a strike.
+// It takes (c, m, layer) as they are lent: they make no Stored before the form check.
 pub fn strike(
     c: usize,
     m: usize,

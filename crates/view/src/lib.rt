@@ -62,6 +62,7 @@ pub fn value(part: Option<Seen>) -> usize
 }
 
 // What the viewer hands back after the read into a buffer of len numbers; nothing where reading is refused.
+// It takes (c, m, layer) as they are lent: they make no Stored before the form check.
 pub fn view_part(
     c: usize,
     m: usize,

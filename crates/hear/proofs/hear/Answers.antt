@@ -6,7 +6,7 @@ use Rattle.hear.proofs.Hearing.{heard_as, heard_base, heard_none}
 use Rattle.hear.proofs.hear.Goals as goal
 
 pub returns-in-Some-Base : goal.returns-in-Some-Base
-returns-in-Some-Base c = heard_as (heard_base (c.base_row.ensures _))
+returns-in-Some-Base c = heard_as (heard_base c.base_row.ensures)
     (sym c.parse.ensures ∙ search rules)
 
 pub returns-in-Some-Add : goal.returns-in-Some-Add

@@ -5,4 +5,4 @@ use Rattle.feed.specs.Input.{Ready}
 use Rattle.print.proofs.main.Given as goal
 
 abbrev pub invariant-loop-turn : goal.invariant-loop-turn
-invariant-loop-turn l = Ready 4096 l.reader × (l.reader.counts.lines ≤ l.turn * 4096)
+invariant-loop-turn l = Ready 4096 l.reader × (l.reader.desk.counts.lines ≤ l.turn * 4096)

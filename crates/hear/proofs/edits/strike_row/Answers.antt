@@ -8,11 +8,12 @@ use Rattle.hear.proofs.edits.strike_row.Goals as goal
 pub slice_bounds-strike-end-2 : goal.slice_bounds-strike-end-2
 slice_bounds-strike-end-2 c =
     let a = c.args in
-    omega (arith, length-take-le a.counts.rows a.table.now (omega arith))
+    omega (arith, length-take-le a.desk.now.counts.rows a.desk.now.table (omega arith))
 
 pub returns : goal.returns
 returns c =
     let a = c.args in
+    let d = a.desk.now in
     let w = c.strike-answer.ensures in
-    heard_strike a.counts a.table.now a.layer.now _ _ _ (omega arith) c.entered.ensures a.r
-    w.0 w.1
+    let e = c.entered.ensures in
+    rw (e.table, e.layer) (heard_strike d.counts d.table d.layer _ _ _ d.standing e.reply a.r w.0 w.1)
