@@ -11,8 +11,8 @@ use borrow.Author.Tests.{lt-leb}
 use Rattle.words.specs.declared.Cause.TheVariants.{KeysUnordered}
 use Rattle.text.specs.declared.Said.TheVariants.{Unread, Refused}
 use Rattle.base.specs.declared.Counts.{Counts}
+use Rattle.base.specs.declared.Reply.{Reply}
 use Rattle.base.specs.Base.{
-  Reply,
   Sheet,
   column_of,
   sheet_of,

@@ -5,6 +5,7 @@ use Rattle.model.specs.Row.{Table}
 use Rattle.text.specs.declared.Said.{Said}
 use Rattle.text.specs.declared.Said.TheVariants.{Unread, Refused}
 use Rattle.base.specs.declared.Counts.{Counts}
+use Rattle.base.specs.declared.Reply.{Reply}
 
 -- the base rows that the program holds at most
 abbrev pub most_base : ℕ
@@ -51,11 +52,6 @@ below_last g n keys = cond (eqb n 0) false (leb g (get_or keys (n - 1) 0))
 -- no base row is taken any more: an edit line was read, or 512 rows stand
 abbrev pub shut : Counts → Bool
 shut d = d.edited || leb most_base d.rows
-
--- the counts after a line, and what is said of it, if anything
-pub record Reply : Type 0 where
-  pub counts : Counts
-  pub said : Option Said
 
 -- one line more was read, and nothing else changed
 abbrev pub stay : Counts → Said → Reply

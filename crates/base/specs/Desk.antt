@@ -2,7 +2,8 @@
 use Rattle.std.specs.Prelude.{◌≡◌, Option}
 use Rattle.text.specs.declared.Said.{Said}
 use Rattle.base.specs.declared.desk.Desk.{Desk}
-use Rattle.base.specs.Base.{Reply, Sheet, sheet_of}
+use Rattle.base.specs.declared.Reply.{Reply}
+use Rattle.base.specs.Base.{Sheet, sheet_of}
 
 -- the lent numbers
 abbrev pub sheet_on : Desk → Sheet

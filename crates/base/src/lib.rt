@@ -20,6 +20,13 @@ pub struct Counts {
     pub lines: u64,
 }
 
+// The counts after a line, and what is said of it, if anything.
+#[derive(Clone, Copy)]
+pub struct Reply {
+    pub counts: Counts,
+    pub said: Option<Said>,
+}
+
 // Reads a line that changes nothing, of which so much is said.
 pub fn stay(desk: &mut Desk, said: Said) -> Option<Said>
     requires { desk.old.counts.lines < 9223372036854775808 }

@@ -40,4 +40,4 @@ module _ (κs : Lfts 1) (a : Dens κs close_kinds.ps) (s : AtExit (ended_of 1 cl
   pub all_written : {blocks texts : List (List ℕ)} (x : Sheet) → close_contract.Post κs a r s →
       Run blocks texts (nothing_read x) (reading_of a.0.now) →
       end_to_end texts ++ take r s.0.now.out ≡ printed (end_to_end blocks) x
-  all_written x p run = run_printed x run p
+  all_written x p run = run_printed x run p.0

@@ -43,7 +43,8 @@ pub fn take_some(reader: &mut Reader, got: Option<usize>, block: &[u8; 4096]) ->
 // Ends the input, and puts the table behind what its last line says. Answers how many bytes of text there are.
 pub fn close(reader: &mut Reader) -> usize
     requires { Ready 1 reader.old }
-    ensures { Wrote (closing (hushed (reading_of reader.old))) reader.old.out 0 result reader.new.out }
+    ensures { Wrote (closing (hushed (reading_of reader.old))) reader.old.out 0 result reader.new.out
+        × (reader.new.line ≡ reader.old.line) }
 {
     feed::end_input(reader);
     show::finish(&reader.desk, &mut reader.out, reader.at)

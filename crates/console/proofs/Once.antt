@@ -17,8 +17,9 @@ use Rattle.intake.specs.declared.Reader.{Reader}
 use Rattle.text.specs.Text.{Wrote, text_room}
 use Rattle.text.specs.declared.Said.{Said}
 use Rattle.base.specs.declared.desk.Desk.{Desk}
-use Rattle.base.specs.Desk.{sheet_on, reply_on}
-use Rattle.base.specs.Base.{Reply, Sheet, most_base, column_of, sheet_of}
+use Rattle.base.specs.Desk.{sheet_on, reply_on, Replied}
+use Rattle.base.specs.declared.Reply.{Reply}
+use Rattle.base.specs.Base.{Sheet, most_base, column_of, sheet_of}
 use Rattle.intake.specs.Reading.{Reading, most_kept}
 use Rattle.intake.specs.Reader.{reading_of, InFront, Spacious}
 use Rattle.text.proofs.put_bytes.Kinds as bytes_kinds
@@ -27,8 +28,12 @@ use Rattle.text.proofs.say.Kinds as say_kinds
 use Rattle.text.proofs.say.Reads as say_contract
 use Rattle.text.proofs.put_rows.Kinds as rows_kinds
 use Rattle.text.proofs.put_rows.Reads as rows_contract
+use Rattle.base.proofs.stay.Kinds as stay_kinds
+use Rattle.base.proofs.stay.Reads as stay_contract
 use Rattle.base.proofs.base_row.Kinds as base_kinds
 use Rattle.base.proofs.base_row.Reads as base_contract
+use Rattle.reply.proofs.entered_on.Kinds as entered_kinds
+use Rattle.reply.proofs.entered_on.Reads as entered_contract
 use Rattle.hear.proofs.hear.Kinds as hear_kinds
 use Rattle.hear.proofs.hear.Reads as hear_contract
 use Rattle.intake.proofs.Reader.take_byte.Kinds as byte_kinds
@@ -148,6 +153,24 @@ desk_once {s} {t} h i p q y z =
       ap (λ (r : Reply). r.said) e,
       record { counts = ap (λ (r : Reply). r.counts) e; table = w.0; layer = w.1 },
     )
+
+-- a reply that changes the counts alone
+replied_once : {b s t : Desk} {r : Reply} {u v : Option Said} → Replied r b s u → Replied r b t v → (u ≡ v) × SameDesk s t
+replied_once p q =
+    let e = p.reply ∙ sym q.reply in (
+      ap (λ (r : Reply). r.said) e,
+      record { counts = ap (λ (r : Reply). r.counts) e; table = p.table ∙ sym q.table; layer = p.layer ∙ sym q.layer },
+    )
+
+module _ (κs : Lfts 1) (a : Dens κs stay_kinds.ps) (s s' : AtExit (ended_of 1 stay_kinds.ps stay_kinds.r) κs) where
+  pub stay_unique : (r r' : Option Said) → stay_contract.Post κs a r s → stay_contract.Post κs a r' s' →
+      (r ≡ r') × SameDesk s.0.now s'.0.now
+  stay_unique r r' p q = replied_once p q
+
+module _ (κs : Lfts 1) (a : Dens κs entered_kinds.ps) (s s' : AtExit (ended_of 1 entered_kinds.ps entered_kinds.r) κs) where
+  pub entered_unique : (r r' : Option Said) → entered_contract.Post κs a r s → entered_contract.Post κs a r' s' →
+      (r ≡ r') × SameDesk s.0.now s'.0.now
+  entered_unique r r' p q = replied_once p q
 
 -- `base` and `hear`: what is said, and the desk; that an array has its type's length is no part of a contract
 module _ (κs : Lfts 1) (a : Dens κs base_kinds.ps) (s s' : AtExit (ended_of 1 base_kinds.ps base_kinds.r) κs) where

@@ -4,6 +4,7 @@
 ghost use Rattle.std.specs.Prelude.{◌≡◌, length};
 ghost use Rattle.model.specs.Raw.{Held};
 ghost use Rattle.splice.specs.Splice.{room_answer, if_done};
+ghost use Rattle.enter.specs.declared.Move.TheVariants.{Number as number};
 ghost use Rattle.enter.specs.Move.{none_at, in_key_order, Within, entered, count_after};
 
 use splice::Splice;
@@ -47,9 +48,21 @@ pub fn in_key_order(lower: bool, out: Splice, into: Splice) -> Move
     }
 }
 
+// Sets one value, which no room is needed for.
+pub fn set_value(c: usize, m: usize, x: Value, layer: &mut [u64])
+    requires { Held c m layer.old × Within c m (number x) }
+    ensures { layer.new ≡ entered c m (number x) layer.old }
+{
+    let at = x.i * (c + 2);
+    let own = at + (2 + x.j);
+    layer[own] = x.v;
+}
+
 // Enters a move into a layer of m entries, where the slice has room for the result. Answers refusal 9, or how many entries
 // there are then.
 // (c, m, layer) stand apart: a Stored is read, and this layer has other entries afterwards.
+// Inlined: called, it was handed a move of two splices through memory, and an edit took nearly twice the stack.
+#[inline(always)]
 pub fn enter(c: usize, m: usize, x: Move, layer: &mut [u64]) -> Result<usize, Refusal>
     requires { Held c m layer.old × Within c m x }
     ensures { let L = layer.old in (result ≡ room_answer c (length L) (count_after m x))
@@ -59,9 +72,7 @@ pub fn enter(c: usize, m: usize, x: Move, layer: &mut [u64]) -> Result<usize, Re
         Move::Entries(p) => splice::enter_two(c, m, p, none(m), layer),
         Move::Both(p, q) => splice::enter_two(c, m, p, q, layer),
         Move::Number(value) => {
-            let at = value.i * (c + 2);
-            let own = at + (2 + value.j);
-            layer[own] = value.v;
+            set_value(c, m, value, layer);
             Ok(m)
         }
     }

@@ -4,6 +4,7 @@
 mod slice;
 
 ghost use Rattle.std.specs.Prelude.{◌≡◌, ◌+◌, ◌*◌, ◌≤◌, ◌<◌, length, get_or, drop, Option, Some, None};
+ghost use Rattle.model.specs.Raw.{entry_at};
 ghost use Rattle.head.specs.Head.{head_of};
 ghost use Rattle.entry.specs.Look.{look_of, edits, entry_of};
 
@@ -20,6 +21,14 @@ pub enum Sight {
     Change(u64, u64, u64),
 }
 
+// The kind of the entry that stands from `at` on, in whatever numbers.
+pub fn kind_at(c: usize, at: usize, layer: &[u64]) -> u64
+    requires { at + (c + 2) ≤ length layer.now }
+    ensures { result ≡ (entry_at c at layer.now).kind }
+{
+    layer[at + 1]
+}
+
 impl Stored<'_> {
     // The position of entry i.
     pub fn pos(&self, i: usize) -> u64
@@ -34,7 +43,7 @@ impl Stored<'_> {
         requires { i < self.now.m }
         ensures { result ≡ (entry_of self.now i).kind }
     {
-        self.numbers[i * (self.c + 2) + 1]
+        kind_at(self.c, i * (self.c + 2), self.numbers)
     }
 
     // Its value j.

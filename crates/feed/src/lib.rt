@@ -1,7 +1,7 @@
 // The input's start, a block of its bytes taken, and its end.
 #![tactic(auto)]
 
-ghost use Rattle.std.specs.Prelude.{length};
+ghost use Rattle.std.specs.Prelude.{◌≡◌, length};
 ghost use Rattle.intake.specs.Reader.{InFront, Took};
 ghost use Rattle.feed.specs.Input.{anew, Begun, Ready, Closed};
 
@@ -33,7 +33,8 @@ pub fn start() -> Reader
 // Ends the input: a line that has begun ends with it. The text starts anew.
 pub fn end_input(reader: &mut Reader)
     requires { Ready 1 reader.old }
-    ensures { Closed (anew reader.old) reader.new × InFront reader.old.out reader.new }
+    ensures { Closed (anew reader.old) reader.new × InFront reader.old.out reader.new
+        × (reader.new.line ≡ reader.old.line) }
 {
     reader.at = 0;
     if 0 < reader.kept {

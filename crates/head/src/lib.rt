@@ -5,7 +5,7 @@ ghost use Rattle.std.specs.Prelude.{◌≡◌};
 ghost use Rattle.model.specs.Raw.{column_of};
 ghost use Rattle.model.specs.Cell.{agree};
 ghost use Rattle.model.specs.Edits.{before};
-ghost use Rattle.model.specs.Conflict.{clash};
+ghost use Rattle.model.specs.Conflict.{clash, rule_number};
 ghost use Rattle.head.specs.Head.{headed, seen, cell_of};
 
 use words::{Entry, Rule};
@@ -86,5 +86,15 @@ pub fn rule_met(mine: Head, theirs: Head) -> Option<Rule>
         None
     } else {
         Some(Rule::SameCell)
+    }
+}
+
+// The number of the rule that is met, 0 where none is.
+pub fn rule_number(rule: Option<Rule>) -> u64
+    ensures { result ≡ rule_number rule }
+{
+    match rule {
+        Some(rule) => rule as u64,
+        None => 0,
     }
 }

@@ -29,7 +29,8 @@ use Rattle.text.specs.declared.Said.TheVariants.{Unread}
 use Rattle.base.specs.declared.Counts.{Counts}
 use Rattle.base.specs.declared.desk.Desk.{Desk}
 use Rattle.base.specs.Desk.{sheet_on, reply_on, Replied}
-use Rattle.base.specs.Base.{Reply, Sheet, column_of, sheet_of, most_base, stay, Based}
+use Rattle.base.specs.declared.Reply.{Reply}
+use Rattle.base.specs.Base.{Sheet, column_of, sheet_of, most_base, stay, Based}
 use Rattle.reply.specs.Reply.{entered}
 use Rattle.hear.specs.Heard.{heard, after, Heard}
 use Rattle.hear.proofs.Rows.{lent_rows, lent_whole}

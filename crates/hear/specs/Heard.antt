@@ -17,7 +17,8 @@ use Rattle.line.specs.declared.Line.{Line}
 use Rattle.line.specs.declared.Line.TheVariants.{Base, Add, Strike, Change, Renumber}
 use Rattle.text.specs.declared.Said.TheVariants.{Unread}
 use Rattle.base.specs.declared.Counts.{Counts}
-use Rattle.base.specs.Base.{Reply, Sheet, base_keys, base_table, stay, base_reply, base_taken, with_row}
+use Rattle.base.specs.declared.Reply.{Reply}
+use Rattle.base.specs.Base.{Sheet, base_keys, base_table, stay, base_reply, base_taken, with_row}
 use Rattle.reply.specs.Reply.{entered}
 
 -- the answer of each edit

@@ -17,7 +17,7 @@ pub fn add_row(desk: &mut Desk, g: u64, s: u64, m: u64) -> Option<Said>
     let n = desk.counts.rows;
     let numbers: &[u64] = &desk.table;
     let answer = add::add(3, desk.counts.entries, &mut desk.layer, &numbers[..n], &row);
-    reply::entered(desk, answer)
+    reply::entered_on(desk, answer)
 }
 
 // Strikes row number r.
@@ -35,7 +35,7 @@ pub fn strike_row(desk: &mut Desk, r: u64) -> Option<Said>
         &numbers[..n],
         r as usize,
     );
-    reply::entered(desk, answer)
+    reply::entered_on(desk, answer)
 }
 
 // Changes column j of row number r to v.
@@ -55,7 +55,7 @@ pub fn change_row(desk: &mut Desk, r: u64, j: u64, v: u64) -> Option<Said>
         j as usize,
         v,
     );
-    reply::entered(desk, answer)
+    reply::entered_on(desk, answer)
 }
 
 // Gives row number r the group number g.
@@ -76,5 +76,5 @@ pub fn renumber_row(desk: &mut Desk, r: u64, g: u64) -> Option<Said>
         r as usize,
         g,
     );
-    reply::entered(desk, answer)
+    reply::entered_on(desk, answer)
 }

@@ -21,7 +21,8 @@ use Rattle.base.specs.declared.Counts.{Counts}
 use Rattle.text.specs.Text.{Wrote, message}
 use Rattle.text.specs.declared.Said.TheVariants.{Unread, Refused}
 use Rattle.text.proofs.Writing.{wrote_before, wrote_then}
-use Rattle.base.specs.Base.{Reply, Sheet, most_base, shut, below_last, base_reply, stay, grown}
+use Rattle.base.specs.declared.Reply.{Reply}
+use Rattle.base.specs.Base.{Sheet, most_base, shut, below_last, base_reply, stay, grown}
 use Rattle.base.specs.Desk.{sheet_on}
 use Rattle.reply.specs.Reply.{entered}
 use Rattle.hear.specs.Heard.{added, struck, changed, renumbered, heard, Heard}

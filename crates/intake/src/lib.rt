@@ -35,7 +35,7 @@ impl Reader {
     // Ends the line that has begun.
     pub fn end_line(&mut self)
         requires { Spacious 1 self.old }
-        ensures { Ended self.old self.new × Writes self.old self.new }
+        ensures { Ended self.old self.new × Writes self.old self.new × (self.new.line ≡ self.old.line) }
     {
         let line: &[u8] = &self.line;
         let said = hear::hear(&mut self.desk, &line[..self.kept]);

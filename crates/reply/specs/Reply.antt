@@ -3,7 +3,7 @@ use Rattle.words.specs.Answer.{Answer}
 use Rattle.std.specs.Prelude.{true, ◌+◌, Some, None, Ok, Err}
 use Rattle.text.specs.declared.Said.TheVariants.{Refused}
 use Rattle.base.specs.declared.Counts.{Counts}
-use Rattle.base.specs.Base.{Reply}
+use Rattle.base.specs.declared.Reply.{Reply}
 
 -- an edit line was read, and the edit answered so
 abbrev pub entered : Counts → Answer → Reply

@@ -4,6 +4,17 @@
 ghost use Rattle.std.specs.Prelude.{◌≡◌, ◌+◌, ◌-◌, ◌≤◌, length, drop, replicate};
 ghost use Rattle.std.proofs.Math.Seq.{paste};
 
+// Copies src over a slice of its own length, number by number. The library's `copy_from_slice` is the C library's memmove here,
+// which a driver's archive would need, and which is called for every gap between two entries, the empty ones too.
+fn copy_same(src: &[u64], dst: &mut [u64])
+    requires { length src.now ≡ length dst.old }
+    ensures { dst.new ≡ src.now }
+{
+    for k in 0..src.len() {
+        dst[k] = src[k];
+    }
+}
+
 // Copies all of src into dst from index at on, and returns the index after the last number written.
 pub fn copy_in(src: &[u64], dst: &mut [u64], at: usize) -> usize
     requires { at + length src.now ≤ length dst.old }
@@ -11,7 +22,7 @@ pub fn copy_in(src: &[u64], dst: &mut [u64], at: usize) -> usize
         × (dst.new ≡ paste dst.old at src.now (length src.now)) }
 {
     let end = at + src.len();
-    dst[at..end].copy_from_slice(src);
+    copy_same(src, &mut dst[at..end]);
     end
 }
 

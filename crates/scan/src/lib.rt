@@ -129,7 +129,7 @@ fn tail_zero<E: Entries>(es: &E, i: usize) -> bool
 }
 
 // An entry with the head e, which is no add: it stands below n, and strikes or changes a column past the key.
-fn base_good(c: usize, n: usize, e: Head) -> bool
+pub fn base_good(c: usize, n: usize, e: Head) -> bool
     ensures { result ≡ base_good c n e.pos e.kind }
 {
     let column = (1 <= e.kind) & (e.kind < c as u64);

@@ -6,4 +6,4 @@ use Rattle.blocks.proofs.close.Goals as goal
 pub returns : goal.returns
 returns c =
     let v = c.end_input.ensures in
-    closed_text v.0 v.1 c.finish.ensures
+    (closed_text v.0 v.1 c.finish.ensures, v.2)

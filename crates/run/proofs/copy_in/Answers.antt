@@ -6,6 +6,6 @@ use Rattle.run.proofs.copy_in.Goals as goal
 
 pub returns : goal.returns
 returns c =
-    let f = c.copy_from_slice in
+    let f = c.copy_same in
     let a = c.args in
-    (refl, put_back a.dst.now a.src.now f.new.self a.at f.ensures.after)
+    (refl, put_back a.dst.now a.src.now f.new.dst a.at f.ensures)

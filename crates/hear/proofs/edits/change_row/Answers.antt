@@ -15,5 +15,5 @@ returns c =
     let a = c.args in
     let d = a.desk.now in
     let w = c.change-answer.ensures in
-    let e = c.entered.ensures in
+    let e = c.entered_on.ensures in
     rw (e.table, e.layer) (heard_change d.counts d.table d.layer _ _ _ d.standing e.reply a.r a.j a.v w.0 w.1)

@@ -11,6 +11,6 @@ returns c =
     let a = c.args in
     let d = a.desk.now in
     let w = c.renumber_apart-answer.ensures in
-    let e = c.entered.ensures in
+    let e = c.entered_on.ensures in
     let size : length d.table ≡ 1536 = search rules in
     rw (e.table, e.layer) (heard_renumber d.counts d.table d.layer _ _ _ d.standing e.reply a.r a.g size w.0 w.1)

@@ -7,4 +7,4 @@ use Rattle.intake.proofs.Reader.end_line.Goals as goal
 pub returns : goal.returns
 returns c =
     let w = c.say-self.ensures in
-    (ended c.hear-said.ensures refl refl w.0 w.1, writes_on w.0)
+    (ended c.hear-said.ensures refl refl w.0 w.1, writes_on w.0, refl)
