@@ -21,7 +21,8 @@ use Rattle.base.specs.Desk.{sheet_on, reply_on, Replied}
 use Rattle.base.specs.declared.Reply.{Reply}
 use Rattle.base.specs.Base.{Sheet, most_base, column_of, sheet_of}
 use Rattle.intake.specs.Reading.{Reading, most_kept}
-use Rattle.intake.specs.Reader.{reading_of, InFront, Spacious}
+use Rattle.intake.specs.Reader.{reading_of, InFront, Writes, Spacious, Ended}
+use Rattle.feed.specs.Input.{anew, Closed}
 use Rattle.text.proofs.put_bytes.Kinds as bytes_kinds
 use Rattle.text.proofs.put_bytes.Reads as bytes_contract
 use Rattle.text.proofs.say.Kinds as say_kinds
@@ -192,13 +193,18 @@ module _ (κs : Lfts 1) (a : Dens κs byte_kinds.ps) (s s' : AtExit (ended_of 1 
       let w = wrote_front a.0.now.out a.0.now.at (omega (arith, l, v.in_text)) in
       reading_once h h' (p.0.same ∙ sym q.0.same) (p.1 a.0.now.out w) (q.1 a.0.now.out w)
 
+-- a line that ended, whatever became of the line's buffer
+pub ended_once : (b : Reader) {s t : Reader} → Arrays s → Arrays t → length b.out ≡ text_room → Spacious 1 b →
+    Ended b s → Writes b s → Ended b t → Writes b t → SameReader s t
+ended_once b h h' l v p x q y =
+    let w = wrote_front b.out b.at (omega (arith, l, v.in_text)) in
+    reading_once h h' (p.same ∙ sym q.same) (x b.out w) (y b.out w)
+
 module _ (κs : Lfts 1) (a : Dens κs line_kinds.ps) (s s' : AtExit (ended_of 1 line_kinds.ps line_kinds.r) κs) where
   pub end_line_unique : (r r' : ⊤) → Arrays s.0.now → Arrays s'.0.now → length a.0.now.out ≡ text_room →
       Spacious 1 a.0.now →
       line_contract.Post κs a r s → line_contract.Post κs a r' s' → SameReader s.0.now s'.0.now
-  end_line_unique r r' h h' l v p q =
-      let w = wrote_front a.0.now.out a.0.now.at (omega (arith, l, v.in_text)) in
-      reading_once h h' (p.0.same ∙ sym q.0.same) (p.1 a.0.now.out w) (q.1 a.0.now.out w)
+  end_line_unique r r' h h' l v p q = ended_once a.0.now h h' l v p.0 p.1 q.0 q.1
 
 -- `feed`: the same of a text that starts anew
 module _ (κs : Lfts 2) (a : Dens κs block_kinds.ps) (s s' : AtExit (ended_of 2 block_kinds.ps block_kinds.r) κs) where
@@ -206,7 +212,12 @@ module _ (κs : Lfts 2) (a : Dens κs block_kinds.ps) (s s' : AtExit (ended_of 2
       block_contract.Post κs a r' s' → SameReader s.0.now s'.0.now
   take_block_unique r r' h h' p q = reading_once h h' (p.0.same ∙ sym q.0.same) p.1 q.1
 
+-- an input that ended, whatever became of the line's buffer
+pub closed_once : (b : Reader) {s t : Reader} → Arrays s → Arrays t → Closed (anew b) s → InFront b.out s →
+    Closed (anew b) t → InFront b.out t → SameReader s t
+closed_once b h h' p x q y = reading_once h h' (p.same ∙ sym q.same) x y
+
 module _ (κs : Lfts 1) (a : Dens κs end_kinds.ps) (s s' : AtExit (ended_of 1 end_kinds.ps end_kinds.r) κs) where
   pub end_input_unique : (r r' : ⊤) → Arrays s.0.now → Arrays s'.0.now → end_contract.Post κs a r s →
       end_contract.Post κs a r' s' → SameReader s.0.now s'.0.now
-  end_input_unique r r' h h' p q = reading_once h h' (p.0.same ∙ sym q.0.same) p.1 q.1
+  end_input_unique r r' h h' p q = closed_once a.0.now h h' p.0 p.1 q.0 q.1
