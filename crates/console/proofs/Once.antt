@@ -184,21 +184,24 @@ module _ (κs : Lfts 2) (a : Dens κs hear_kinds.ps) (s s' : AtExit (ended_of 2 
       hear_contract.Post κs a r s → hear_contract.Post κs a r' s' → (r ≡ r') × SameDesk s.0.now s'.0.now
   hear_unique r r' h i p q = desk_once h i p.reply q.reply p.sheet q.sheet
 
+-- two outcomes that read as one, each of which wrote on behind what b had said
+written_once : (b : Reader) {s t : Reader} → Arrays s → Arrays t → length b.out ≡ text_room → Spacious 1 b →
+    reading_of s ≡ reading_of t → Writes b s → Writes b t → SameReader s t
+written_once b h h' l v e x y =
+    let w = wrote_front b.out b.at (omega (arith, l, v.in_text)) in
+    reading_once h h' e (x b.out w) (y b.out w)
+
 -- `intake`, called as it demands: the counts, the table and the layer, the line that has begun and the text
 module _ (κs : Lfts 1) (a : Dens κs byte_kinds.ps) (s s' : AtExit (ended_of 1 byte_kinds.ps byte_kinds.r) κs) where
   pub take_byte_unique : (r r' : ⊤) → Arrays s.0.now → Arrays s'.0.now → length a.0.now.out ≡ text_room →
       Spacious 1 a.0.now →
       byte_contract.Post κs a r s → byte_contract.Post κs a r' s' → SameReader s.0.now s'.0.now
-  take_byte_unique r r' h h' l v p q =
-      let w = wrote_front a.0.now.out a.0.now.at (omega (arith, l, v.in_text)) in
-      reading_once h h' (p.0.same ∙ sym q.0.same) (p.1 a.0.now.out w) (q.1 a.0.now.out w)
+  take_byte_unique r r' h h' l v p q = written_once a.0.now h h' l v (p.0.same ∙ sym q.0.same) p.1 q.1
 
 -- a line that ended, whatever became of the line's buffer
 pub ended_once : (b : Reader) {s t : Reader} → Arrays s → Arrays t → length b.out ≡ text_room → Spacious 1 b →
     Ended b s → Writes b s → Ended b t → Writes b t → SameReader s t
-ended_once b h h' l v p x q y =
-    let w = wrote_front b.out b.at (omega (arith, l, v.in_text)) in
-    reading_once h h' (p.same ∙ sym q.same) (x b.out w) (y b.out w)
+ended_once b h h' l v p x q y = written_once b h h' l v (p.same ∙ sym q.same) x y
 
 module _ (κs : Lfts 1) (a : Dens κs line_kinds.ps) (s s' : AtExit (ended_of 1 line_kinds.ps line_kinds.r) κs) where
   pub end_line_unique : (r r' : ⊤) → Arrays s.0.now → Arrays s'.0.now → length a.0.now.out ≡ text_room →
